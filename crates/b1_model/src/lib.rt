@@ -1,0 +1,30 @@
+//! The bus's names, commands, answers and records, and the definitions that every contract of the bus cites.
+//!
+//! `docs/MODEL.md` tells what they mean in plain words.
+#![tactic(auto)]
+
+mod answers;
+mod commands;
+mod entries;
+mod events;
+mod lists;
+mod naming;
+mod parts;
+mod records;
+mod tables;
+
+pub use answers::{Answer, Front, Places, Quantity, Reason, Receipt, Refused, Sent, errno};
+pub use commands::{Command, CommandLists, Commands, SendCmd};
+pub use entries::{Charge, Entry};
+pub use events::{Action, Destruction, Doing, Outcome, OwedDrop, Phase, Sending, SlotLists};
+pub use lists::{Bytes, Items, Nums, Nums32};
+pub use naming::{Key, Limits, NodeRef, Opening, PeerSpec, Peers, Wire, Wires, key_cmp};
+pub use parts::{
+    Attach, Begun, Dead, Doomed, Drops, NodeRefs, NodeState, Owed, PeerSet, Received, Slot, Slots,
+    Visited,
+};
+pub use records::{Call, Calls, PeerCalls, PeerLists, Record, Stamp, Stamps};
+pub use tables::Usage;
+
+#[cfg(test)]
+mod tests;
