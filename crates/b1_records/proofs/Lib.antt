@@ -1,0 +1,4 @@
+pub mod Loop
+pub mod Formats
+pub mod Records
+pub mod Appended

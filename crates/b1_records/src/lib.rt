@@ -1,0 +1,13 @@
+//! Command records: commands as bytes.
+#![tactic(auto)]
+
+pub mod fields;
+mod kinds;
+mod reading;
+mod writing;
+
+pub use reading::{decode, decode_within, every_place_has_a_record_or_a_fault};
+pub use writing::encode;
+
+#[cfg(test)]
+mod tests;

@@ -1,0 +1,277 @@
+-- What is read of a whole script is spelled so, and what is spelled so is read.
+use Rattle.std.proofs.Common.{◌≡◌, ◌≢◌, ℕ, zero, suc, ◌+◌, ◌-◌, ◌*◌, ◌%◌, ◌^◌, ◌<◌, ◌≤◌, Bool, true, false, cond, eqb, ltb, List, [], ◌∷◌, ◌++◌, length, take, drop, Option, Some, None, Result, Ok, Err, refl, sym, ap, subst, ◌∙◌, append_assoc, arith, eq-eqb}
+use Rattle.std.specs.Prelude.{IfOk}
+use Rattle.std.specs.List.{flat_map, AllByRecursion}
+use Rattle.std.proofs.lemmas.Bool.{eqb-true, ltb-false, le-ltb}
+use Rattle.std.proofs.lemmas.List.{length-append, take_all}
+use Rattle.std.proofs.lemmas.List.Concat.{flat_map-cons}
+use Rattle.b1_errs.specs.declared.Cause.TheVariants as causes
+use Rattle.b1_errs.specs.declared.NotRead.{NotRead}
+use Rattle.b1_model.specs.declared.commands.Command.{Command}
+use Rattle.b1_model.specs.declared.commands.Command.TheVariants.{Disconnect, Query, Reset, Release, Destroy, SliceRelease, Send, Recv, Await}
+use Rattle.b1_model.specs.declared.naming.PeerSpec.{PeerSpec}
+use Rattle.b1_model.specs.declared.naming.Wire.{Wire}
+use Rattle.b1_model.specs.Opening.{AreWired, HasPool, IsOpening}
+use Rattle.b1_wire.specs.Numbers.{u32_bytes, u64_bytes}
+use Rattle.b1_records.specs.Spelling.{IsWithin, HasNumbers, Is32, IsByte, Stands}
+use Rattle.b1_records.specs.Spelling as records
+use Rattle.b1_records.specs.Reading.{◌>>=◌, Read, Fault, Gives, fault_of}
+use Rattle.b1_records.proofs.Formats.{IsBytes, IsFormat, bind_ok, guard_ok, passed_ok, ok_is, stands_join, stands_split, stands_nothing}
+use Rattle.b1_records.proofs.Records.{Fits, fault_or_value, each_byte}
+use Rattle.b1_script.specs.declared.header.Header.{Header}
+use Rattle.b1_script.specs.declared.script.Script.{Script}
+use Rattle.b1_script.specs.Spelling.{most_script, header_len, peer_spelling, wire_spelling, commands_spelling, pad_spelling, parts, header_spelling, spelling, HasSpelling, IsSpec, IsWire, HasFields, IsScript, IsWhole}
+use Rattle.b1_script.specs.Reading.{header_at, parts_at, script_at, whole_at, to_the_end, len_place, bad_script, bad}
+use Rattle.b1_script.proofs.Scripts.{htext1, IsHeader, header_format, IsPeer, CommandsFit, PartsFit, parts_format}
+
+-- ---- lengths
+
+length_wires : (ws : List Wire) → length (flat_map wire_spelling ws) ≡ 16 * length ws
+length_wires [] = refl
+length_wires (w ∷ ws) =
+    let e = ap (λ (x : List ℕ). length x) (flat_map-cons wire_spelling w ws) in
+    let ih = length_wires ws in
+    omega (arith, e, ih)
+
+length_turns : (ts : List ℕ) → length (flat_map u32_bytes ts) ≡ 4 * length ts
+length_turns [] = refl
+length_turns (t ∷ ts) =
+    let e = ap (λ (x : List ℕ). length x) (flat_map-cons u32_bytes t ts) in
+    let ih = length_turns ts in
+    omega (arith, e, ih)
+
+-- a record has bytes
+some_bytes : (c : Command) → 1 ≤ length (records.spelling c)
+some_bytes Disconnect = omega arith
+some_bytes Query = omega arith
+some_bytes (Reset limits) = omega arith
+some_bytes (Release n) = omega arith
+some_bytes (Destroy ns) = omega arith
+some_bytes (SliceRelease n) = omega arith
+some_bytes (Send send) = omega arith
+some_bytes Recv = omega arith
+some_bytes Await = omega arith
+
+length_commands : (cs : List Command) → length cs ≤ length (flat_map records.spelling cs)
+length_commands [] = omega arith
+length_commands (c ∷ cs) =
+    let e = ap (λ (x : List ℕ). length x) (flat_map-cons records.spelling c cs) ∙ length-append (records.spelling c) (flat_map records.spelling cs) in
+    let ih = length_commands cs in
+    omega (arith, e, ih, some_bytes c)
+
+-- each list of commands has at most as many as all the lists have bytes
+short_lists : (top : ℕ) (ls : List (List Command)) → length (flat_map commands_spelling ls) ≤ top → AllByRecursion (λ cs. length cs ≤ top) ls
+short_lists top [] h = tt
+short_lists top (cs ∷ ls) h =
+    let e = ap (λ (x : List ℕ). length x) (flat_map-cons commands_spelling cs ls) ∙ length-append (commands_spelling cs) (flat_map commands_spelling ls) in
+    let own = length_commands cs in
+    (omega (arith, e, own, h), short_lists top ls (omega (arith, e, h)))
+
+-- the lengths of the parts
+record PartLengths (s : Script) : Type 0 where
+  wires : 16 * length s.opening.wires ≤ length (parts s)
+  lists : length (flat_map commands_spelling s.commands) ≤ length (parts s)
+  turns : 4 * length s.turns ≤ length (parts s)
+
+part_lengths : (s : Script) → PartLengths s
+part_lengths s =
+    let peers : List ℕ = flat_map peer_spelling s.opening.peers in
+    let wires : List ℕ = flat_map wire_spelling s.opening.wires in
+    let lists : List ℕ = flat_map commands_spelling s.commands in
+    let turns : List ℕ = flat_map u32_bytes s.turns in
+    let pad : List ℕ = pad_spelling (length s.turns) in
+    let a = length-append peers wires in
+    let b = length-append (peers ++ wires) lists in
+    let c = length-append (peers ++ wires ++ lists) turns in
+    let d = length-append (peers ++ wires ++ lists ++ turns) pad in
+    let w = length_wires s.opening.wires in
+    let t = length_turns s.turns in
+    record { wires = omega (arith, a, b, c, d, w); lists = omega (arith, b, c, d); turns = omega (arith, c, d, t) }
+
+-- ---- facts of what was read
+
+-- facts on each, taken apart and put together
+each : {A : Type 0} (P Q : A → Type 0) → ((a : A) → P a → Q a) → (xs : List A) → AllByRecursion P xs → AllByRecursion Q xs
+each P Q f [] h = tt
+each P Q f (x ∷ xs) h = (f x h.0, each P Q f xs h.1)
+
+each_both : {A : Type 0} (P Q R : A → Type 0) → ((a : A) → P a → Q a → R a) → (xs : List A) → AllByRecursion P xs → AllByRecursion Q xs → AllByRecursion R xs
+each_both P Q R f [] h k = tt
+each_both P Q R f (x ∷ xs) h k = (f x h.0 k.0, each_both P Q R f xs h.1 k.1)
+
+-- what the header of a script says
+abbrev header_of : Script → Header
+header_of s = record { peers = length s.opening.peers; first_clock = s.opening.first_clock; wires = length s.opening.wires; turns = length s.turns; len = header_len + length (parts s) }
+
+header_is : (h : Header) (s : Script) → PartsFit h s → header_len + length (parts s) ≡ h.len → header_of s ≡ h
+header_is h s fit len =
+    rw len (rw (fit.peer_count, fit.clock, fit.wire_count, fit.turn_count) refl)
+
+-- the facts that were found make a script
+found_facts : (bytes : List ℕ) (s : Script) (h : Header) (end : ℕ) → header_of s ≡ h → Stands bytes 0 (htext1 h ++ parts s) end → end ≤ most_script → end ≡ header_len + length (parts s) → IsHeader h → PartsFit h s → IsScript bytes s end
+found_facts bytes s h end same joined under ends is_header fit =
+    let lengths = part_lengths s in
+    let n : length s.opening.peers ≡ h.peers = fit.peer_count in
+    record {
+      has_spelling = record {
+        opening = record {
+          least = omega (arith, n, is_header.peers.0);
+          most = omega (arith, n, is_header.peers.1);
+          even = rw fit.clock is_header.clock.0;
+          clock = rw fit.clock is_header.clock.1;
+          pools = each IsPeer HasPool (λ p k. k.1) s.opening.peers fit.peers;
+          few = omega (arith, under, ends, lengths.wires);
+          wires = subst (λ (k : ℕ). AreWired k [] s.opening.wires) (sym n) fit.wires.0;
+        };
+        lists = fit.list_count ∙ sym n;
+        commands = each CommandsFit (AllByRecursion IsWithin) (λ cs k. each Fits IsWithin (λ c f. f.0) cs k.1) s.commands fit.lists;
+        turns = subst (λ (k : ℕ). AllByRecursion (λ p. p < k) s.turns) (sym n) fit.turns;
+        short = omega (arith, under, ends);
+      };
+      fields = record {
+        peers = each IsPeer IsSpec (λ p k. k.0) s.opening.peers fit.peers;
+        wires = fit.wires.1;
+        commands = each CommandsFit (AllByRecursion HasNumbers) (λ cs k. each Fits HasNumbers (λ c f. f.1) cs k.1) s.commands fit.lists;
+      };
+      stands = subst (λ (k : Header). Stands bytes 0 (htext1 k ++ parts s) end) (sym same) joined;
+    }
+
+pub script_found : (bytes : List ℕ) (s : Script) (end : ℕ) → IsBytes bytes → script_at most_script bytes ≡ Ok (s, end) → IsScript bytes s end
+unfolding script_at
+script_found bytes s end fits e =
+    let b = bind_ok (header_at most_script bytes 0) (λ header. parts_at most_script bytes header.0 header.1 >>= λ script. cond (eqb script.1 header.0.len) (Ok script) (Err (len_place, causes.Length))) (s, end) e in
+    let h : Header = b.0.0 in
+    let c = bind_ok (parts_at most_script bytes h b.0.1) (λ script. cond (eqb script.1 h.len) (Ok script) (Err (len_place, causes.Length))) (s, end) b.2 in
+    let p = passed_ok (eqb c.0.1 h.len) (len_place, causes.Length) (Ok c.0) (s, end) c.2 in
+    let is = ok_is c.0 (s, end) p.1 in
+    let t = (header_format most_script bytes fits).takes 0 h b.0.1 (omega arith) (omega arith) b.1 in
+    let read : parts_at most_script bytes h b.0.1 ≡ Ok (s, end) = subst (λ (x : Script × ℕ). parts_at most_script bytes h b.0.1 ≡ Ok x) is c.1 in
+    let u = (parts_format most_script bytes h fits t.2.peers.1).takes b.0.1 s end t.0.within t.1 read in
+    let ends : end ≡ header_len + length (parts s) = omega (arith, t.0.ends, u.0.ends) in
+    let len : header_len + length (parts s) ≡ h.len = sym ends ∙ ap (λ (x : Script × ℕ). x.1) (sym is) ∙ eqb-true c.0.1 h.len p.0 in
+    let same : header_of s ≡ h = header_is h s u.2 len in
+    let joined : Stands bytes 0 (htext1 h ++ parts s) end = stands_join bytes (htext1 h) (parts s) 0 b.0.1 end t.0 u.0 in
+    found_facts bytes s h end same joined u.1 ends t.2 u.2
+
+-- the facts of a script are those that its parts need
+parts_fit : (s : Script) → HasSpelling s → HasFields s → PartsFit (header_of s) s
+parts_fit s has fields =
+    let lengths = part_lengths s in
+    let short = short_lists (length (parts s)) s.commands lengths.lists in
+    let small : AllByRecursion (λ cs. Is32 (length cs)) s.commands = each (λ cs. length cs ≤ length (parts s)) (λ cs. Is32 (length cs)) (λ cs k. omega (arith, k, has.short)) s.commands short in
+    let each_fits : AllByRecursion (AllByRecursion Fits) s.commands
+    = each_both (AllByRecursion IsWithin) (AllByRecursion HasNumbers) (AllByRecursion Fits) (λ cs a b. each_both IsWithin HasNumbers Fits (λ c x y. (x, y)) cs a b) s.commands has.commands fields.commands in
+    record {
+      clock = refl;
+      peer_count = refl;
+      peers = each_both IsSpec HasPool IsPeer (λ p a b. (a, b)) s.opening.peers fields.peers has.opening.pools;
+      wire_count = refl;
+      wires = (has.opening.wires, fields.wires);
+      list_count = has.lists;
+      lists = each_both (λ cs. Is32 (length cs)) (AllByRecursion Fits) CommandsFit (λ cs a b. (a, b)) s.commands small each_fits;
+      turn_count = refl;
+      turns = has.turns;
+    }
+
+header_fits : (s : Script) → HasSpelling s → IsHeader (header_of s)
+header_fits s has =
+    let lengths = part_lengths s in
+    record {
+      peers = (has.opening.least, has.opening.most);
+      clock = (has.opening.even, has.opening.clock);
+      wires = omega (arith, has.opening.few);
+      turns = omega (arith, lengths.turns, has.short);
+      len = omega (arith, has.short);
+    }
+
+pub script_read : (bytes : List ℕ) (s : Script) (end : ℕ) → IsBytes bytes → IsScript bytes s end → script_at most_script bytes ≡ Ok (s, end)
+unfolding script_at
+script_read bytes s end fits is =
+    let h : Header = header_of s in
+    let split = stands_split bytes (htext1 h) (parts s) 0 end is.stands in
+    let middle : ℕ = 0 + length (htext1 h) in
+    let ends : end ≡ header_len + length (parts s) = omega (arith, is.stands.ends, length-append (htext1 h) (parts s)) in
+    let under : end ≤ most_script = omega (arith, ends, is.has_spelling.short) in
+    let early : middle ≤ most_script = omega (arith, split.1.ends, under) in
+    let one = (header_format most_script bytes fits).again 0 h middle split.0 early (header_fits s is.has_spelling) in
+    let two = (parts_format most_script bytes h fits is.has_spelling.opening.most).again middle s end split.1 under (parts_fit s is.has_spelling is.fields) in
+    rw (one, two, eq-eqb end h.len ends) refl
+
+-- ---- answers
+
+pub answer_found : (bytes : List ℕ) (r : Result (Script × ℕ) NotRead) → IsBytes bytes → Gives (λ x. x) r (script_at most_script bytes) → IfOk r (λ read. IsScript bytes read.0 read.1)
+answer_found bytes (Ok x) fits given = script_found bytes x.0 x.1 fits given
+answer_found bytes (Err e) fits given = tt
+
+abbrev read_done : Script × ℕ → Read Script
+read_done x = Ok x
+
+abbrev whole_done : Script → Result Script Fault
+whole_done s = Ok s
+
+whole_is : (s t : Script) → whole_done s ≡ whole_done t → s ≡ t
+whole_is s t e = cc
+
+at_the_end : (x : Script × ℕ) (n : ℕ) (b : Bool) (s : Script) → eqb x.1 n ≡ b → cond b (whole_done x.0) (Err (x.1, causes.Trailing)) ≡ Ok s → read_done x ≡ Ok (s, n)
+at_the_end x n true s is e =
+    let end : x.1 ≡ n = eqb-true x.1 n is in
+    let same : x.0 ≡ s = whole_is x.0 s e in
+    rw (same, end) refl
+at_the_end x n false s is e = absurd cc
+
+to_the_end_ok : (bytes : List ℕ) (r : Read Script) (s : Script) → to_the_end bytes r ≡ Ok s → r ≡ Ok (s, length bytes)
+to_the_end_ok bytes (Ok x) s e = at_the_end x (length bytes) (eqb x.1 (length bytes)) s refl e
+to_the_end_ok bytes (Err f) s e = absurd cc
+
+not_long : (b : Bool) (f : Fault) (r : Result Script Fault) (s : Script) → cond b (Err f) r ≡ Ok s → r ≡ Ok s
+not_long true f r s e = absurd cc
+not_long false f r s e = e
+
+pub whole_found : (bytes : List ℕ) (s : Script) → IsBytes bytes → whole_at bytes ≡ Ok s → IsWhole bytes s
+unfolding whole_at
+whole_found bytes s fits e =
+    let r = not_long (ltb most_script (length bytes)) _ (to_the_end bytes (script_at most_script bytes)) s e in
+    let is = script_found bytes s (length bytes) fits (to_the_end_ok bytes (script_at most_script bytes) s r) in
+    let len : length bytes ≡ length (spelling s) = omega (arith, is.stands.ends) in
+    record { has_spelling = is.has_spelling; fields = is.fields; spelled = sym (take_all (length (spelling s)) bytes (omega (arith, len))) ∙ is.stands.there }
+
+pub whole_read : (bytes : List ℕ) (s : Script) → IsBytes bytes → IsWhole bytes s → whole_at bytes ≡ Ok s
+unfolding whole_at
+whole_read bytes s fits is =
+    let len : length bytes ≡ length (spelling s) = ap (λ (x : List ℕ). length x) is.spelled in
+    let there : take (length (spelling s)) (drop 0 bytes) ≡ spelling s = take_all (length (spelling s)) bytes (omega (arith, len)) ∙ is.spelled in
+    let stands : Stands bytes 0 (spelling s) (length bytes) = record { there = there; ends = omega (arith, len); within = omega arith } in
+    let read = script_read bytes s (length bytes) fits (record { has_spelling = is.has_spelling; fields = is.fields; stands = stands }) in
+    let whole : length (spelling s) ≡ header_len + length (parts s) = length-append (header_spelling s) (parts s) in
+    let short : ltb most_script (length bytes) ≡ false = le-ltb _ _ (omega (arith, len, whole, is.has_spelling.short)) in
+    rw (short, read) (rw (eq-eqb (length bytes) (length bytes) refl) refl)
+
+pub whole_answer : (bytes : List ℕ) (r : Result Script NotRead) → IsBytes bytes → Gives (λ x. x) r (whole_at bytes) → IfOk r (λ s. IsWhole bytes s)
+whole_answer bytes (Ok s) fits given = whole_found bytes s fits given
+whole_answer bytes (Err e) fits given = tt
+
+pub no_fault : (bytes : List ℕ) → IsBytes bytes → bad bytes ≡ None → (s : Script) × IsWhole bytes s
+no_fault bytes fits e =
+    let v = fault_or_value (whole_at bytes) e in
+    (v.0, whole_found bytes v.0 fits v.1)
+
+pub no_script : (bytes : List ℕ) (s : Script) → IsBytes bytes → IsWhole bytes s → bad bytes ≡ None
+no_script bytes s fits is = ap (λ (x : Result Script Fault). fault_of x) (whole_read bytes s fits is)
+
+pub front_has_no_fault : (bytes : List ℕ) → IsBytes bytes → bad_script bytes ≡ None → (s : Script) × (end : ℕ) × IsScript bytes s end
+front_has_no_fault bytes fits e =
+    let v = fault_or_value (script_at most_script bytes) e in
+    (v.0.0, v.0.1, script_found bytes v.0.0 v.0.1 fits v.1)
+
+pub front_has_no_script : (bytes : List ℕ) (s : Script) (end : ℕ) → IsBytes bytes → IsScript bytes s end → bad_script bytes ≡ None
+front_has_no_script bytes s end fits is = ap (λ (x : Read Script). fault_of x) (script_read bytes s end fits is)
+
+-- ---- what can be written is short
+
+pub few_turns : (s : Script) → HasSpelling s → length s.turns ≤ most_script
+few_turns s has = let lengths = part_lengths s in omega (arith, lengths.turns, has.short)
+
+pub few_commands : (s : Script) → HasSpelling s → AllByRecursion (λ cs. length cs ≤ most_script) s.commands
+few_commands s has =
+    let lengths = part_lengths s in
+    each (λ cs. length cs ≤ length (parts s)) (λ cs. length cs ≤ most_script) (λ cs k. omega (arith, k, has.short)) s.commands (short_lists (length (parts s)) s.commands lengths.lists)

@@ -1,0 +1,3 @@
+pub mod WiresLoop
+pub mod Scripts
+pub mod Laws

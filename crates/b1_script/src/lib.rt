@@ -1,0 +1,20 @@
+//! Script files: an opening, each peer's commands, and turns.
+#![tactic(auto)]
+
+mod header;
+mod held;
+mod lists;
+mod peers;
+mod reading;
+mod resolving;
+mod script;
+mod wires;
+mod writing;
+
+pub use reading::{every_input_is_a_script_or_has_a_fault, read, read_whole};
+pub use resolving::resolve;
+pub use script::{Script, Turns};
+pub use writing::write;
+
+#[cfg(test)]
+mod tests;

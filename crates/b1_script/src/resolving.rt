@@ -1,0 +1,117 @@
+ghost use Rattle.std.specs.Prelude.{◌≡◌, map, slice_get, IfOk};
+ghost use Rattle.std.specs.Option.{option_map};
+ghost use Rattle.b1_model.specs.Script.{data_of, data_receipts, resolved_handle, resolved_offset, resolved};
+ghost use Rattle.b1_script.specs.Resolving.{data_seen, list_seen};
+
+use b1_model::{Answer, Bytes, Call, Calls, Command, Nums, Receipt, SendCmd};
+use std::alloc::{AllocError, Global};
+
+/// The number that names nothing.
+const INVALID: u64 = u64::MAX;
+
+/// The offset of the slice and the handles of an answer that is a data receipt.
+fn data(answer: &Answer) -> Option<(u32, &[u64])>
+    ensures { list_seen result ≡ data_of answer.now }
+{
+    match answer {
+        Answer::Got(
+            Receipt::Message {
+                offset,
+                handles,
+                ..
+            },
+        ) => Some((*offset, handles.as_slice())),
+        _ => None,
+    }
+}
+
+/// The data receipt of this index among the calls, counted from 0.
+fn nth_data(calls: &[Call], index: u64) -> Option<(u32, &[u64])>
+    ensures { option_map data_seen result ≡ slice_get (data_receipts calls.now) index }
+{
+    let mut left = index;
+    for call in calls {
+        if let Some(found) = data(&call.answer) {
+            if left == 0 {
+                return Some(found);
+            }
+            left -= 1;
+        }
+    }
+    None
+}
+
+/// What a handle's number stands for: an odd one for a handle of a data receipt.
+fn handle(calls: &[Call], number: u64) -> u64
+    ensures { result ≡ resolved_handle calls.now number }
+{
+    if number % 2 != 1 {
+        return number;
+    }
+    match nth_data(calls, number / 128) {
+        Some((_, handles)) => match handles.get((number % 128 / 2) as usize) {
+            Some(handle) => *handle,
+            None => INVALID,
+        },
+        None => INVALID,
+    }
+}
+
+/// What an offset stands for: an odd one for the slice of a data receipt.
+fn slice_offset(calls: &[Call], offset: u64) -> u64
+    ensures { result ≡ resolved_offset calls.now offset }
+{
+    if offset % 2 != 1 {
+        return offset;
+    }
+    match nth_data(calls, offset / 2) {
+        Some((offset, _)) => offset as u64,
+        None => INVALID,
+    }
+}
+
+fn resolve_all(alloc: Global, numbers: &[u64], calls: &[Call]) -> Result<Nums, AllocError>
+    ensures { IfOk result (λ list. list ≡ map (resolved_handle calls.now) numbers.now) }
+{
+    let mut items = Vec::with_capacity(alloc, numbers.len())?;
+    for number in numbers {
+        items.push(handle(calls, *number))?;
+    }
+    Ok(Nums::from_vec(items))
+}
+
+fn resolve_send(alloc: Global, send: &SendCmd, calls: &[Call]) -> Result<SendCmd, AllocError>
+    ensures { IfOk result (λ s. s ≡ record send.now { to = map (resolved_handle calls.now) send.now.to; with = map (resolved_handle calls.now) send.now.with }) }
+{
+    Ok(SendCmd {
+        go_on: send.go_on,
+        to: resolve_all(alloc, send.to.as_slice(), calls)?,
+        with: resolve_all(alloc, send.with.as_slice(), calls)?,
+        payload: Bytes::from_slice(alloc, send.payload.as_slice())?,
+    })
+}
+
+/// A command that begins after these calls, with the references among its operands resolved: an odd operand stands for a
+/// handle or the slice of an earlier data receipt, and for 2^64 - 1 where there is none. An error is want of memory.
+pub fn resolve(alloc: Global, command: &Command, calls: &Calls) -> Result<Command, AllocError>
+    ensures { IfOk result (λ c. c ≡ resolved command.now calls.now) }
+{
+    let calls = calls.as_slice();
+    match command {
+        Command::Disconnect => Ok(Command::Disconnect),
+        Command::Query => Ok(Command::Query),
+        Command::Reset { limits } => Ok(Command::Reset { limits: *limits }),
+        Command::Release { number } => Ok(Command::Release {
+            number: handle(calls, *number),
+        }),
+        Command::Destroy { numbers } => Ok(Command::Destroy {
+            numbers: resolve_all(alloc, numbers.as_slice(), calls)?,
+        }),
+        Command::SliceRelease { offset } => Ok(Command::SliceRelease {
+            offset: slice_offset(calls, *offset),
+        }),
+        Command::Send(send) => Ok(Command::Send(resolve_send(alloc, send, calls)?)),
+        Command::Recv => Ok(Command::Recv),
+        Command::Await => Ok(Command::Await),
+    }
+}
