@@ -1,0 +1,5 @@
+pub mod PlaceLemmas
+pub mod SliceLemmas
+pub mod FitLemmas
+pub mod PoolLemmas
+pub mod UsedLemmas

@@ -1,0 +1,15 @@
+//! A pool of bytes, cut into slices that are taken and given back.
+#![tactic(auto)]
+
+mod kind;
+mod laws;
+mod list;
+pub mod places;
+mod slices;
+#[cfg(test)]
+mod tests;
+
+pub use kind::{Full, Memory, NoSlice, PoolKind};
+pub use laws::other_slices_stay;
+pub use list::ListPool;
+pub use slices::{Slice, SliceState};

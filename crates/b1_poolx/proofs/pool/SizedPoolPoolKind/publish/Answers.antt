@@ -1,0 +1,14 @@
+use Rattle.std.proofs.Common.{ap, sym, ◌∙◌, arith}
+use Rattle.b1_pool.specs.Slices.{begins, is_unpublished}
+use Rattle.b1_poolx.specs.Sizes.{by_size}
+use Rattle.b1_poolx.proofs.ChangeLemmas.{by_size-publish}
+use Rattle.b1_poolx.proofs.pool.SizedPoolPoolKind.publish.Goals as goal
+
+pub invariant_of-self : goal.invariant_of-self
+invariant_of-self c =
+    let unpublished = ap (λ v. begins is_unpublished c.args.off v.slices) c.self.view_is ∙ c.requires in
+    record {
+      pool = c.publish_at.ensures.sound _ c.self.invariant.pool;
+      sized = c.self.invariant.sized ∙ sym (ap by_size c.publish_at.ensures.slices ∙ by_size-publish c.args.off c.self.inside.slices.items unpublished);
+      room_for_all = omega (arith, c.self.invariant.room_for_all, c.publish_at.ensures.len);
+    }

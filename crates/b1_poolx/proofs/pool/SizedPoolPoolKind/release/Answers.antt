@@ -1,0 +1,5 @@
+use Rattle.b1_pool.proofs.PoolLemmas.{total-IsPool}
+use Rattle.b1_poolx.proofs.pool.SizedPoolPoolKind.release.Goals as goal
+
+pub release-requires-clause-inside : goal.release-requires-clause-inside
+release-requires-clause-inside c = total-IsPool _ _ c.self.invariant.pool
