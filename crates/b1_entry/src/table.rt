@@ -1,0 +1,103 @@
+ghost use Rattle.std.specs.Prelude.{◌≡◌, ◌≢◌, ℕ, ◌+◌, ◌<◌, ◌≤◌, [], Some, None, IsSome, OnOk, is_some, if◌then◌else◌, option_copied, slice_set};
+ghost use Rattle.std.specs.Option.{option_copied_mut};
+ghost use Rattle.std.specs.Borrow.{sem};
+ghost use Rattle.b1_entry.specs.Table.{entry_at};
+
+use b1_model::Entry;
+use slab::Slab;
+use std::alloc::{AllocError, Global};
+use std::marker::Model;
+
+/// Entries by place. A place is a number that the table picks, and no entry moves until it is removed.
+#[derive(Debug, Drop)]
+pub struct EntryTable {
+    entries: Slab<Entry>,
+}
+
+impl Model for EntryTable {
+    ghost use Rattle.std.specs.Prelude.{◌-◌, ◌≤◌, length};
+    ghost use Rattle.slab.specs.Slab.{slab_len};
+    ghost use Rattle.b1_entry.specs.Table.{Table};
+
+    ghost Value = { Table };
+
+    ghost view = { λ t. record {
+      slots = t.entries.slots;
+      spare = t.entries.capacity - slab_len t.entries;
+      room = t.entries.capacity;
+    } };
+
+    ghost invariant = { λ t. length t.entries.slots ≤ t.entries.capacity };
+}
+
+impl EntryTable {
+    ghost use Rattle.b1_entry.specs.Lends.{lends_entry};
+
+    /// A table with no entry, no spare and no room. It takes no memory.
+    pub fn make(alloc: Global) -> EntryTable
+        ensures { result ≡ record { slots = []; spare = 0; room = 0 } }
+    {
+        EntryTable {
+            entries: Slab::new(alloc),
+        }
+    }
+
+    /// Makes room for `n` more entries. An error is want of memory, and leaves every entry.
+    pub fn reserve(&mut self, n: usize) -> Result<(), AllocError>
+        ensures slots { self.new.slots ≡ self.old.slots }
+        ensures enough { OnOk result (n ≤ self.new.spare) }
+        ensures spare { self.old.spare ≤ self.new.spare }
+        ensures room { self.old.room ≤ self.new.room }
+    {
+        self.entries.reserve(n)
+    }
+
+    /// A number above every place in use, and above every place that `insert` gives until the next `reserve`.
+    pub fn room(&self) -> usize
+        ensures room { result ≡ self.now.room }
+        ensures in_use { (place : ℕ) → IsSome (entry_at self.now.slots place) → place < result }
+    {
+        self.entries.capacity()
+    }
+
+    /// Puts an entry at a vacant place, and answers the place.
+    pub fn insert(&mut self, e: Entry) -> usize
+        requires { 0 < self.old.spare }
+        ensures vacant { entry_at self.old.slots result ≡ None }
+        ensures in_room { result < self.old.room }
+        ensures here { entry_at self.new.slots result ≡ Some e }
+        ensures others { (other : ℕ) → other ≢ result → entry_at self.new.slots other ≡ entry_at self.old.slots other }
+        ensures spare { self.new.spare + 1 ≡ self.old.spare }
+        ensures room { self.new.room ≡ self.old.room }
+    {
+        let place = self.entries.insert_reserved(e);
+        let room = self.entries.capacity();
+        prove!(place < room);
+        place
+    }
+
+    /// The entry at a place; `None` where the place is vacant.
+    pub fn get(&self, place: usize) -> Option<&Entry>
+        ensures { option_copied result ≡ entry_at self.now.slots place }
+    {
+        self.entries.get(place)
+    }
+
+    /// The entry at a place, to be written; `None` where the place is vacant.
+    pub fn get_mut(&mut self, place: usize) -> Option<&mut Entry>
+        ensures* writes_back { sem 𝓛 (lends_entry self.entry place result) }
+        ensures entry { option_copied_mut result ≡ entry_at self.old.slots place }
+    {
+        self.entries.get_mut(place)
+    }
+
+    /// Removes the entry at a place; `None` where the place is vacant.
+    pub fn remove(&mut self, place: usize) -> Option<Entry>
+        ensures entry { result ≡ entry_at self.old.slots place }
+        ensures slots { self.new.slots ≡ slice_set self.old.slots place None }
+        ensures spare { self.new.spare ≡ self.old.spare + (if is_some result then 1 else 0) }
+        ensures room { self.new.room ≡ self.old.room }
+    {
+        self.entries.try_remove(place)
+    }
+}
