@@ -1,0 +1,15 @@
+pub mod Sequences
+pub mod Walks
+pub mod Stable
+pub mod KeyOrder
+pub mod Bound
+pub mod Grows
+pub mod Kept
+pub mod Plain
+pub mod Calls
+pub mod Stamped
+pub mod Steps
+pub mod Ascends
+pub mod NextAfter
+pub mod Made
+pub mod Doomed
