@@ -1,0 +1,47 @@
+-- The clock's limit at a destination.
+use Rattle.std.specs.Prelude.{◌≡◌, refl, List, [], ◌∷◌, None, Some, option_map}
+use Rattle.b1_model.specs.declared.commands.Command.TheVariants as cmd
+use Rattle.b1_model.specs.declared.answers.Reason.TheVariants as reason
+use Rattle.b1_model.specs.declared.answers.Receipt.TheVariants as rec
+use Rattle.b1_model.specs.declared.answers.Answer.TheVariants as ans
+use Rattle.b1_model.specs.declared.naming.Opening.{Opening}
+use Rattle.b1_model.specs.declared.records.Record.{Record}
+use Rattle.b1_model.specs.MachineStep.{Label, record_of_state}
+use Rattle.b1_step.proofs.RowWords.{call, key, limits, spec, wire, send, sent, refused, peer, opening, from, labels, LeadsTo, played}
+use Rattle.b1_step.proofs.Steps.{leads_to}
+
+abbrev start : Opening
+start = opening 4611686018427387902 (spec 0 4096 (limits 16 4096 16) ∷ spec 1 4096 (limits 16 4096 16) ∷ spec 2 4096 (limits 16 4096 16) ∷ []) (wire 1 0 4 ∷ wire 1 2 4 ∷ [])
+
+abbrev steps : List Label
+steps = labels (
+    from 0 (send (2 ∷ []) [] (97 ∷ [])) 4 ∷
+    from 0 (send (2 ∷ []) [] (97 ∷ [])) 0 ∷
+    from 2 (send (2 ∷ []) [] (97 ∷ [])) 1 ∷
+    from 0 cmd.Await 0 ∷
+    from 1 cmd.Await 0 ∷
+    from 1 cmd.Await 0 ∷
+    from 2 cmd.Await 0 ∷
+    from 0 cmd.Await 0 ∷
+    from 1 cmd.Await 0 ∷
+    from 2 cmd.Await 0 ∷
+    [])
+
+abbrev row : Record
+row = record {
+  peers =
+      peer 0 4611686018427387904 (
+      call (send (2 ∷ []) [] (97 ∷ [])) (sent 4611686018427387904 (None ∷ [])) ∷
+      call (send (2 ∷ []) [] (97 ∷ [])) (refused (reason.Overflow 4611686018427387904) None) ∷ []) ∷
+      peer 0 4611686018427387904 (
+      call cmd.Recv (ans.Got (rec.Message (key 4611686018427387904 0 0) 4 0 [] (97 ∷ []))) ∷ []) ∷
+      peer 0 4611686018427387902 (
+      call (send (2 ∷ []) [] (97 ∷ [])) (refused (reason.Overflow 4611686018427387904) (Some 0)) ∷ []) ∷ [];
+}
+
+computes : option_map (λ s. record_of_state s) (played start steps) ≡ Some row
+computes = refl
+
+-- the steps lead from the opening to a state with the record
+pub leads : LeadsTo start steps row
+leads = leads_to start steps row computes

@@ -1,0 +1,49 @@
+-- A dead handle is refused until it is released.
+use Rattle.std.specs.Prelude.{◌≡◌, refl, List, [], ◌∷◌, None, Some, option_map}
+use Rattle.b1_model.specs.declared.commands.Command.TheVariants as cmd
+use Rattle.b1_model.specs.declared.answers.Reason.TheVariants as reason
+use Rattle.b1_model.specs.declared.answers.Receipt.TheVariants as rec
+use Rattle.b1_model.specs.declared.answers.Answer.TheVariants as ans
+use Rattle.b1_model.specs.declared.naming.Opening.{Opening}
+use Rattle.b1_model.specs.declared.records.Record.{Record}
+use Rattle.b1_model.specs.MachineStep.{Label, record_of_state}
+use Rattle.b1_step.proofs.RowWords.{call, key, limits, spec, wire, send, refused, peer, opening, from, labels, LeadsTo, played}
+use Rattle.b1_step.proofs.Steps.{leads_to}
+
+abbrev start : Opening
+start = opening 0 (spec 0 4096 (limits 16 4096 16) ∷ spec 1 4096 (limits 16 4096 16) ∷ []) (wire 1 0 4 ∷ wire 1 0 8 ∷ [])
+
+abbrev steps : List Label
+steps = labels (
+    from 0 cmd.Await 0 ∷
+    from 1 (cmd.Destroy (4 ∷ [])) 5 ∷
+    from 0 cmd.Await 0 ∷
+    from 0 (send (6 ∷ []) (2 ∷ []) []) 0 ∷
+    from 0 (send (2 ∷ []) [] []) 1 ∷
+    from 0 (cmd.Release 2) 1 ∷
+    from 0 cmd.Await 0 ∷
+    from 1 cmd.Await 0 ∷
+    from 1 cmd.Await 0 ∷
+    from 0 cmd.Await 0 ∷
+    from 1 cmd.Await 0 ∷
+    [])
+
+abbrev row : Record
+row = record {
+  peers =
+      peer 0 2 (
+      call cmd.Recv (ans.Got (rec.Destroyed (key 2 1 0) 2)) ∷
+      call (send (6 ∷ []) (2 ∷ []) []) (refused (reason.Gone 1 0) None) ∷
+      call (send (2 ∷ []) [] []) (refused (reason.Gone 1 0) (Some 0)) ∷
+      call (cmd.Release 2) ans.Done ∷ []) ∷
+      peer 0 2 (
+      call (cmd.Destroy (4 ∷ [])) (ans.Destroyed 2) ∷
+      call cmd.Recv (ans.Got (rec.Destroyed (key 2 1 0) 4)) ∷ []) ∷ [];
+}
+
+computes : option_map (λ s. record_of_state s) (played start steps) ≡ Some row
+computes = refl
+
+-- the steps lead from the opening to a state with the record
+pub leads : LeadsTo start steps row
+leads = leads_to start steps row computes
