@@ -1,0 +1,174 @@
+ghost use Rattle.std.specs.Prelude.{◌≡◌, ◌++◌, OnOk, string_bytes};
+ghost use Rattle.b1_report.specs.Report.{answer_text, receipt_text, places_text, place_text, quantity_text, front_text, gone_text};
+ghost use Rattle.b1_report.specs.Report.{reason_text, refused_text, reset_text};
+
+use crate::numbers::{write_hex, write_key, write_number, write_numbers};
+use b1_model::{Answer, Command, Front, Places, Quantity, Reason, Receipt, Refused};
+use std::alloc::AllocError;
+use std::fmt::Write;
+
+/// The answer of a command.
+pub(crate) fn write_answer(
+    out: &mut String,
+    command: &Command,
+    answer: &Answer,
+) -> Result<(), AllocError>
+    ensures { OnOk result (string_bytes out.new ≡ string_bytes out.old ++ answer_text command.now answer.now) }
+{
+    match answer {
+        Answer::Sent(sent) => {
+            write!(out, "sent {} ", sent.stamp)?;
+            write_places(out, &sent.places)
+        }
+        Answer::Got(receipt) => write_receipt(out, receipt),
+        Answer::Done => out.push_str("ok"),
+        Answer::Destroyed { stamp } => write!(out, "destroyed {stamp}"),
+        Answer::Reset { stamp } => write_reset(out, command, *stamp),
+        Answer::Info { user, pool, limits } => write!(
+            out,
+            "info {user} {pool} {} {} {}",
+            limits.entries, limits.bytes, limits.handles
+        ),
+        Answer::Refused(refused) => write_refused(out, *refused),
+    }
+}
+
+fn write_reset(out: &mut String, command: &Command, stamp: Option<u64>) -> Result<(), AllocError>
+    ensures { OnOk result (string_bytes out.new ≡ string_bytes out.old ++ reset_text command.now stamp) }
+{
+    match command {
+        Command::Disconnect => out.push_str("left ")?,
+        _ => out.push_str("reset ")?,
+    }
+    match stamp {
+        Some(stamp) => write!(out, "{stamp}"),
+        None => out.push_str("-"),
+    }
+}
+
+fn write_receipt(out: &mut String, receipt: &Receipt) -> Result<(), AllocError>
+    ensures { OnOk result (string_bytes out.new ≡ string_bytes out.old ++ receipt_text receipt.now) }
+{
+    match receipt {
+        Receipt::Message {
+            key,
+            number,
+            offset,
+            handles,
+            payload,
+        } => {
+            out.push_str("data ")?;
+            write_key(out, key)?;
+            out.push_str(" node ")?;
+            write_number(out, *number)?;
+            write!(out, " slice {offset} handles ")?;
+            write_numbers(out, handles)?;
+            out.push_str(" bytes ")?;
+            write_hex(out, payload.as_slice())
+        }
+        Receipt::Destroyed { key, number } => {
+            out.push_str("destroyed ")?;
+            write_key(out, key)?;
+            out.push_str(if *number % 4 == 0 {
+                " node "
+            } else {
+                " handle "
+            })?;
+            write_number(out, *number)
+        }
+        Receipt::Released { stamp, number } => {
+            write!(out, "released {stamp} node ")?;
+            write_number(out, *number)
+        }
+    }
+}
+
+fn write_places(out: &mut String, places: &Places) -> Result<(), AllocError>
+    ensures { OnOk result (string_bytes out.new ≡ string_bytes out.old ++ places_text places.now) }
+{
+    let [first, rest @ ..] = places.as_slice() else {
+        return out.push_str("-");
+    };
+    write_place(out, *first)?;
+    for place in rest {
+        out.push_str(",")?;
+        write_place(out, *place)?;
+    }
+    Ok(())
+}
+
+fn write_place(out: &mut String, place: Option<Reason>) -> Result<(), AllocError>
+    ensures { OnOk result (string_bytes out.new ≡ string_bytes out.old ++ place_text place) }
+{
+    match place {
+        Some(reason) => write_reason(out, reason),
+        None => out.push_str("ok"),
+    }
+}
+
+fn write_refused(out: &mut String, refused: Refused) -> Result<(), AllocError>
+    ensures { OnOk result (string_bytes out.new ≡ string_bytes out.old ++ refused_text refused) }
+{
+    out.push_str("refused ")?;
+    write_reason(out, refused.reason)?;
+    match refused.place {
+        Some(place) => write!(out, " at {place}"),
+        None => Ok(()),
+    }
+}
+
+fn write_reason(out: &mut String, reason: Reason) -> Result<(), AllocError>
+    ensures { OnOk result (string_bytes out.new ≡ string_bytes out.old ++ reason_text reason) }
+{
+    match reason {
+        Reason::Unknown { number } => {
+            out.push_str("ENXIO:")?;
+            write_number(out, number)
+        }
+        Reason::Again(front) => write_front(out, front),
+        Reason::Memory => out.push_str("ENOMEM"),
+        Reason::Invalid => out.push_str("EINVAL"),
+        Reason::Full { asked, largest } => write!(out, "EXFULL:{asked}:{largest}"),
+        Reason::Overflow { clock } => write!(out, "EOVERFLOW:{clock}"),
+        Reason::Size { len } => write!(out, "EMSGSIZE:{len}"),
+        Reason::Shutdown => out.push_str("ESHUTDOWN"),
+        Reason::Gone { owner, serial } => write_gone(out, owner, serial),
+        Reason::Quota {
+            what,
+            own,
+            others,
+            limit,
+            asked,
+        } => {
+            out.push_str("EDQUOT:")?;
+            out.push_str(quantity_word(what))?;
+            write!(out, ":{own}:{others}:{limit}:{asked}")
+        }
+    }
+}
+
+fn write_front(out: &mut String, front: Front) -> Result<(), AllocError>
+    ensures { OnOk result (string_bytes out.new ≡ string_bytes out.old ++ front_text front) }
+{
+    match front {
+        Front::Absent => out.push_str("EAGAIN:absent"),
+        Front::Staged { origin, stamp } => write!(out, "EAGAIN:staged:{origin}:{stamp}"),
+    }
+}
+
+fn write_gone(out: &mut String, owner: u32, serial: u32) -> Result<(), AllocError>
+    ensures { OnOk result (string_bytes out.new ≡ string_bytes out.old ++ gone_text owner serial) }
+{
+    out.push_str("EHOSTUNREACH:")?;
+    write!(out, "{owner}.{serial}")
+}
+
+fn quantity_word(what: Quantity) -> &'static str
+    ensures { result.now ≡ quantity_text what }
+{
+    match what {
+        Quantity::Entries => "entries",
+        Quantity::Bytes => "bytes",
+        Quantity::Handles => "handles",
+    }
+}
