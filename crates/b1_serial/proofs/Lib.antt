@@ -1,0 +1,13 @@
+pub mod Lists
+pub mod Plainly
+pub mod Nodes
+pub mod Laws
+pub mod Parts
+pub mod Good
+pub mod Received
+pub mod Sent
+pub mod Steps
+pub mod Played
+pub mod Drained
+pub mod Scripted
+pub mod Whole
