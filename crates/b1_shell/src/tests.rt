@@ -1,0 +1,187 @@
+ghost use Rattle.std.specs.Prelude.{◌≡◌, ◌<◌};
+
+use super::*;
+use b1_io::{MemSink, MemSource};
+use std::test::Fail;
+
+// The words, the numbers of a script, and the status and the text that they give.
+struct Row {
+    numbers: &'static [u32],
+    status: u8,
+    text: &'static str,
+}
+
+const ONE_MESSAGE: [u32; 42] = [
+    0x31535542, 0x31524353, 1, 2, 0, 0, 1, 0, 168, 0, 0, 4096, 16, 4096, 16, 0, 1, 4096, 16, 4096,
+    16, 0, 1, 0, 4, 0, 1, 0, 7, 0, 1, 0, 2, 0, 2, 0, 26984, 0, 1, 0, 8, 0,
+];
+
+const ROWS: [Row; 8] = [
+    // one message
+    Row {
+        numbers: &ONE_MESSAGE,
+        status: 0,
+        text: "bus1 report 1\npeers 2\npeer 0 epoch 0 clock 2\nsend 0 to 2 with - data 6869 = sent 2 ok\npeer 1 epoch 0 clock 2\nrecv = data 2.0.0 node 4 slice 0 handles - bytes 6869\nend\n",
+    },
+    // empty message has a slice
+    Row {
+        numbers: &[
+            0x31535542, 0x31524353, 1, 2, 0, 0, 1, 0, 208, 0, 0, 4096, 16, 4096, 16, 0, 1, 4096,
+            16, 4096, 16, 0, 1, 0, 4, 0, 2, 0, 7, 0, 1, 0, 0, 0, 2, 0, 7, 0, 1, 0, 1, 0, 2, 0, 97,
+            0, 2, 0, 8, 0, 8, 0,
+        ],
+        status: 0,
+        text: "bus1 report 1\npeers 2\npeer 0 epoch 0 clock 4\nsend 0 to 2 with - data - = sent 2 ok\nsend 0 to 2 with - data 61 = sent 4 ok\npeer 1 epoch 0 clock 4\nrecv = data 2.0.0 node 4 slice 0 handles - bytes -\nrecv = data 4.0.0 node 4 slice 8 handles - bytes 61\nend\n",
+    },
+    // two in order then absent
+    Row {
+        numbers: &[
+            0x31535542, 0x31524353, 1, 2, 0, 0, 1, 0, 224, 0, 0, 4096, 16, 4096, 16, 0, 1, 4096,
+            16, 4096, 16, 0, 1, 0, 4, 0, 2, 0, 7, 0, 1, 0, 1, 0, 2, 0, 97, 0, 7, 0, 1, 0, 1, 0, 2,
+            0, 98, 0, 3, 0, 8, 0, 8, 0, 8, 0,
+        ],
+        status: 0,
+        text: "bus1 report 1\npeers 2\npeer 0 epoch 0 clock 4\nsend 0 to 2 with - data 61 = sent 2 ok\nsend 0 to 2 with - data 62 = sent 4 ok\npeer 1 epoch 0 clock 4\nrecv = data 2.0.0 node 4 slice 0 handles - bytes 61\nrecv = data 4.0.0 node 4 slice 8 handles - bytes 62\nrecv = refused EAGAIN:absent\nend\n",
+    },
+    // least free slice
+    Row {
+        numbers: &[
+            0x31535542, 0x31524353, 1, 2, 0, 0, 1, 0, 392, 0, 0, 48, 16, 4096, 16, 0, 1, 4096, 16,
+            4096, 16, 0, 0, 1, 4, 0, 11, 0, 7, 0, 1, 0, 16, 0, 4, 0, 0, 0, 0, 0, 7, 0, 1, 0, 8, 0,
+            4, 0, 0, 0, 7, 0, 1, 0, 16, 0, 4, 0, 0, 0, 0, 0, 8, 0, 8, 0, 8, 0, 6, 0, 0, 0, 7, 0, 1,
+            0, 8, 0, 4, 0, 0, 0, 7, 0, 1, 0, 8, 0, 4, 0, 0, 0, 8, 0, 8, 0, 0, 0,
+        ],
+        status: 0,
+        text: "bus1 report 1\npeers 2\npeer 0 epoch 0 clock 10\nsend 0 to 4 with - data 00000000000000000000000000000000 = sent 2 ok\nsend 0 to 4 with - data 0000000000000000 = sent 4 ok\nsend 0 to 4 with - data 00000000000000000000000000000000 = sent 6 ok\nrecv = data 2.0.0 node 4 slice 0 handles - bytes 00000000000000000000000000000000\nrecv = data 4.0.0 node 4 slice 16 handles - bytes 0000000000000000\nrecv = data 6.0.0 node 4 slice 24 handles - bytes 00000000000000000000000000000000\nslice 0 = ok\nsend 0 to 4 with - data 0000000000000000 = sent 8 ok\nsend 0 to 4 with - data 0000000000000000 = sent 10 ok\nrecv = data 8.0.0 node 4 slice 40 handles - bytes 0000000000000000\nrecv = data 10.0.0 node 4 slice 0 handles - bytes 0000000000000000\npeer 1 epoch 0 clock 0\nend\n",
+    },
+    // missing turns are short
+    Row {
+        numbers: &[
+            0x31535542, 0x31524353, 1, 2, 0, 0, 1, 1, 168, 0, 0, 4096, 16, 4096, 16, 0, 1, 4096,
+            16, 4096, 16, 0, 1, 0, 4, 0, 1, 0, 7, 0, 1, 0, 2, 0, 2, 0, 26984, 0, 1, 0, 8, 0,
+        ],
+        status: 2,
+        text: "bad input at 168: short\n",
+    },
+    // a reserved field
+    Row {
+        numbers: &[
+            0x31535542, 0x31524353, 1, 2, 0, 0, 1, 0, 168, 1, 0, 4096, 16, 4096, 16, 0, 1, 4096,
+            16, 4096, 16, 0, 1, 0, 4, 0, 1, 0, 7, 0, 1, 0, 2, 0, 2, 0, 26984, 0, 1, 0, 8, 0,
+        ],
+        status: 2,
+        text: "bad input at 36: reserved\n",
+    },
+    // one turn
+    Row {
+        numbers: &[
+            0x31535542, 0x31524353, 1, 2, 0, 0, 1, 1, 176, 0, 0, 4096, 16, 4096, 16, 0, 1, 4096,
+            16, 4096, 16, 0, 1, 0, 4, 0, 1, 0, 7, 0, 1, 0, 2, 0, 2, 0, 26984, 0, 1, 0, 8, 0, 0, 0,
+        ],
+        status: 2,
+        text: "bad input at 0: later\n",
+    },
+    // a query
+    Row {
+        numbers: &[
+            0x31535542, 0x31524353, 1, 2, 0, 0, 1, 0, 128, 0, 0, 4096, 16, 4096, 16, 0, 1, 4096,
+            16, 4096, 16, 0, 1, 0, 4, 0, 1, 0, 2, 0, 0, 0,
+        ],
+        status: 2,
+        text: "bad input at 0: later\n",
+    },
+];
+
+// Numbers of four bytes each, least byte first.
+fn bytes_of(alloc: Global, numbers: &[u32]) -> Result<Vec<u8>, AllocError> {
+    let mut bytes = Vec::new(alloc);
+    for number in numbers {
+        bytes.extend_from_slice(&number.to_le_bytes())?;
+    }
+    Ok(bytes)
+}
+
+fn words_of(alloc: Global, texts: &[&'static str]) -> Result<Vec<String>, AllocError> {
+    let mut words = Vec::new(alloc);
+    for text in texts {
+        words.push(String::from_str(alloc, text)?)?;
+    }
+    Ok(words)
+}
+
+// The status of `play` on an input, and the sink behind it. Both ends move 64 bytes in a call.
+fn play_input(
+    alloc: Global,
+    input: Vec<u8>,
+    read_fails: Vec<u64>,
+    write_fails: Vec<u64>,
+) -> Result<(u8, MemSink), AllocError> {
+    let words = words_of(alloc, &["play"])?;
+    let mut source = MemSource::make(input, 64, read_fails);
+    let mut sink = MemSink::make(alloc, 4096, 64, write_fails)?;
+    let status = quiet(alloc, &words, &mut source, &mut sink);
+    Ok((status, sink))
+}
+
+#[test]
+fn rows(rt: HostRuntime) -> Result<(), Fail> {
+    let alloc = rt.alloc();
+    for row in &ROWS {
+        let input = bytes_of(alloc, row.numbers)?;
+        let (status, sink) = play_input(alloc, input, Vec::new(alloc), Vec::new(alloc))?;
+        assert_eq!(rt; status, row.status);
+        assert_eq!(rt; sink.taken(), row.text.as_bytes());
+    }
+    Ok(())
+}
+
+#[test]
+fn cut_and_trailing(rt: HostRuntime) -> Result<(), Fail> {
+    let alloc = rt.alloc();
+    let mut cut = bytes_of(alloc, &ONE_MESSAGE)?;
+    cut.truncate(167);
+    let (status, sink) = play_input(alloc, cut, Vec::new(alloc), Vec::new(alloc))?;
+    assert_eq!(rt; status, 2);
+    assert_eq!(rt; sink.taken(), b"bad input at 164: short\n".as_slice());
+    let mut longer = bytes_of(alloc, &ONE_MESSAGE)?;
+    longer.push(0)?;
+    let (status, sink) = play_input(alloc, longer, Vec::new(alloc), Vec::new(alloc))?;
+    assert_eq!(rt; status, 2);
+    assert_eq!(rt; sink.taken(), b"bad input at 168: trailing\n".as_slice());
+    Ok(())
+}
+
+#[test]
+fn usage(rt: HostRuntime) -> Result<(), Fail> {
+    let alloc = rt.alloc();
+    let rows: [&[&'static str]; 3] = [&[], &["play", "x"], &["soak", "07"]];
+    for texts in rows {
+        let words = words_of(alloc, texts)?;
+        let mut source = MemSource::make(Vec::new(alloc), 64, Vec::new(alloc));
+        let mut sink = MemSink::make(alloc, 64, 64, Vec::new(alloc))?;
+        let status = top(alloc, &words, &mut source, &mut sink);
+        assert_eq!(rt; status, 1);
+        assert_eq!(rt;
+            sink.taken(),
+            b"usage: bus1sh play|run|asm|dump|check|soak N\n".as_slice()
+        );
+    }
+    Ok(())
+}
+
+#[test]
+fn failing_reads_and_writes(rt: HostRuntime) -> Result<(), Fail> {
+    let alloc = rt.alloc();
+    let input = bytes_of(alloc, &ONE_MESSAGE)?;
+    let (status, sink) = play_input(alloc, input, [1].to_vec(alloc)?, Vec::new(alloc))?;
+    assert_eq!(rt; status, 4);
+    assert!(rt; sink.taken().is_empty());
+    // The write that fails, and how many bytes were taken before it.
+    for (fails, count) in [(0u64, 0usize), (1, 64)] {
+        let input = bytes_of(alloc, &ONE_MESSAGE)?;
+        let (status, sink) = play_input(alloc, input, Vec::new(alloc), [fails].to_vec(alloc)?)?;
+        assert_eq!(rt; status, 5);
+        assert_eq!(rt; sink.taken(), &ROWS[0].text.as_bytes()[..count]);
+    }
+    Ok(())
+}
