@@ -1,1 +1,4 @@
 mod Rows
+pub mod PeerLemmas
+mod StableSort
+mod BusOrder

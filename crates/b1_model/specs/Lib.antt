@@ -8,6 +8,7 @@ pub mod Opening
 pub mod MachineParts
 pub mod MachinePool
 pub mod MachineTables
+pub mod Peers
 pub mod MachineSend
 pub mod MachineReceive
 pub mod MachineDestroy

@@ -2,7 +2,8 @@ use crate::answers::{Answer, Places, Reason, Refused};
 use crate::commands::Command;
 use crate::lists::Items;
 use crate::naming::NodeRef;
-use crate::parts::{Attach, Begun, Dead, Doomed, Owed, PeerSet, Received, Slots, Visited};
+use crate::parts::{Attach, Begun, Dead, Doomed, Owed, Received, Slots, Visited};
+use crate::peers::PeerSet;
 
 /// The event that a driver does next. Where no peer stands, it is at the driver's own peer.
 #[derive(Clone, Copy, Debug)]

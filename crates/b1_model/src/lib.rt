@@ -7,9 +7,13 @@ mod answers;
 mod commands;
 mod entries;
 mod events;
+mod held;
 mod lists;
 mod naming;
+mod opening;
+mod order;
 mod parts;
+mod peers;
 mod records;
 mod tables;
 
@@ -17,12 +21,15 @@ pub use answers::{Answer, Front, Places, Quantity, Reason, Receipt, Refused, Sen
 pub use commands::{Command, CommandLists, Commands, SendCmd};
 pub use entries::{Charge, Entry};
 pub use events::{Action, Destruction, Doing, Outcome, OwedDrop, Phase, Sending, SlotLists};
+pub use held::Held;
 pub use lists::{Bytes, Items, Nums, Nums32};
 pub use naming::{Key, Limits, NodeRef, Opening, PeerSpec, Peers, Wire, Wires, key_cmp};
+pub use opening::valid_opening;
+pub use order::{answer_stamp, order_of};
 pub use parts::{
-    Attach, Begun, Dead, Doomed, Drops, NodeRefs, NodeState, Owed, PeerSet, Received, Slot, Slots,
-    Visited,
+    Attach, Begun, Dead, Doomed, Drops, NodeRefs, NodeState, Owed, Received, Slot, Slots, Visited,
 };
+pub use peers::PeerSet;
 pub use records::{Call, Calls, PeerCalls, PeerLists, Record, Stamp, Stamps};
 pub use tables::Usage;
 

@@ -1,4 +1,4 @@
-ghost use Rattle.std.specs.Prelude.{◌≡◌, ◌==◌, [], length, slice_get, IfOk};
+ghost use Rattle.std.specs.Prelude.{◌≡◌, ◌==◌, ◌<◌, [], Some, length, set, slice_get, IfOk};
 ghost use Rattle.std.specs.Option.{option_copied};
 
 use std::alloc::{AllocError, Global};
@@ -68,6 +68,15 @@ impl<T> Items<T> {
         ensures { option_copied result ≡ slice_get self.now index }
     {
         self.items.get(index)
+    }
+
+    /// Puts a value at an index in place of the one there, and answers that one. Takes no memory.
+    pub fn replace(&mut self, index: usize, value: T) -> T
+        requires { index < length self.old }
+        ensures out { Some result ≡ slice_get self.old index }
+        ensures list { self.new ≡ set self.old index value }
+    {
+        std::mem::replace(&mut self.items[index], value)
     }
 }
 

@@ -49,9 +49,6 @@ pub type Drops = Items<(NodeRef, u64)>;
 /// The serials of the nodes that a destruction destroys, in its order.
 pub type Doomed = Items<u32>;
 
-/// A set of peers, as a list in rising order.
-pub type PeerSet = Items<u32>;
-
 /// What a SEND's begin found: the node of each destination, and of each carried handle.
 #[derive(Debug, Drop)]
 pub struct Begun {

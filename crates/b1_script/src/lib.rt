@@ -2,7 +2,6 @@
 #![tactic(auto)]
 
 mod header;
-mod held;
 mod lists;
 mod peers;
 mod reading;
@@ -12,7 +11,7 @@ mod wires;
 mod writing;
 
 pub use reading::{every_input_is_a_script_or_has_a_fault, read, read_whole};
-pub use resolving::resolve;
+pub use resolving::{resolve, resolve_handle, resolve_offset};
 pub use script::{Script, Turns};
 pub use writing::write;
 

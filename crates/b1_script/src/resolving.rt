@@ -41,8 +41,9 @@ fn nth_data(calls: &[Call], index: u64) -> Option<(u32, &[u64])>
     None
 }
 
-/// What a handle's number stands for: an odd one for a handle of a data receipt.
-fn handle(calls: &[Call], number: u64) -> u64
+/// What a handle's number stands for after these calls: an odd one for a handle of a data receipt, and for 2^64 - 1
+/// where there is none.
+pub fn resolve_handle(calls: &[Call], number: u64) -> u64
     ensures { result ≡ resolved_handle calls.now number }
 {
     if number % 2 != 1 {
@@ -57,8 +58,9 @@ fn handle(calls: &[Call], number: u64) -> u64
     }
 }
 
-/// What an offset stands for: an odd one for the slice of a data receipt.
-fn slice_offset(calls: &[Call], offset: u64) -> u64
+/// What an offset stands for after these calls: an odd one for the slice of a data receipt, and for 2^64 - 1 where there
+/// is none.
+pub fn resolve_offset(calls: &[Call], offset: u64) -> u64
     ensures { result ≡ resolved_offset calls.now offset }
 {
     if offset % 2 != 1 {
@@ -75,7 +77,7 @@ fn resolve_all(alloc: Global, numbers: &[u64], calls: &[Call]) -> Result<Nums, A
 {
     let mut items = Vec::with_capacity(alloc, numbers.len())?;
     for number in numbers {
-        items.push(handle(calls, *number))?;
+        items.push(resolve_handle(calls, *number))?;
     }
     Ok(Nums::from_vec(items))
 }
@@ -102,13 +104,13 @@ pub fn resolve(alloc: Global, command: &Command, calls: &Calls) -> Result<Comman
         Command::Query => Ok(Command::Query),
         Command::Reset { limits } => Ok(Command::Reset { limits: *limits }),
         Command::Release { number } => Ok(Command::Release {
-            number: handle(calls, *number),
+            number: resolve_handle(calls, *number),
         }),
         Command::Destroy { numbers } => Ok(Command::Destroy {
             numbers: resolve_all(alloc, numbers.as_slice(), calls)?,
         }),
         Command::SliceRelease { offset } => Ok(Command::SliceRelease {
-            offset: slice_offset(calls, *offset),
+            offset: resolve_offset(calls, *offset),
         }),
         Command::Send(send) => Ok(Command::Send(resolve_send(alloc, send, calls)?)),
         Command::Recv => Ok(Command::Recv),

@@ -2,7 +2,7 @@ ghost use Rattle.std.specs.Prelude.{◌≡◌, []};
 ghost use Rattle.b1_records.specs.Reading.{Gives};
 ghost use Rattle.b1_script.specs.Reading.{gives_foreign, peer_number_at, other_number_at, wire_at, wires_at};
 
-use crate::held::Held;
+use b1_model::Held;
 use b1_errs::{Cause, NotRead};
 use b1_model::{Wire, Wires};
 use b1_records::fields::{long_number, number};

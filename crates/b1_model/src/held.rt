@@ -3,7 +3,7 @@
 ghost use Rattle.std.specs.Prelude.{◌≡◌, [], slice_get, OnOk};
 ghost use Rattle.b1_model.specs.Opening.{held_by, from_owner, with_held, after_wire};
 
-use b1_model::Wire;
+use crate::naming::Wire;
 use std::alloc::{AllocError, Global};
 use std::marker::Model;
 
