@@ -4,9 +4,7 @@
 mod changes;
 mod pool;
 mod sizes;
-mod steps;
 #[cfg(test)]
 mod tests;
 
 pub use pool::SizedPool;
-pub use steps::Steps;

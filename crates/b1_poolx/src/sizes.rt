@@ -5,9 +5,9 @@ ghost use Rattle.std.specs.Vec.{vec_capacity};
 ghost use Rattle.b1_pool.specs.Slices.{is_before};
 ghost use Rattle.b1_poolx.specs.Sizes.{placed, without, IsBySize, last_length, first_long, AllBefore, NoneBefore, AllShorter, NoneShorter};
 
-use crate::steps::Steps;
 use b1_pool::Slice;
 use b1_pool::places::comes_before;
+use b1_steps::Steps;
 use std::marker::Brand;
 use std::sync::ledger::{Blank, Ledger};
 
@@ -69,7 +69,7 @@ fn find_with<L: Ledger>(free: &[Slice], len: u32, blank: Blank) -> Option<Slice>
     requires some { 0 < blank.parts }
     ensures { result ≡ first_long len free.now }
 {
-    let mut steps = Steps::<L>::open(blank);
+    let mut steps = Steps::<L>::start(blank);
     find(free, len, &mut steps)
 }
 

@@ -3,8 +3,8 @@
 ghost use Rattle.std.specs.Prelude.{◌≡◌, ℕ, ◌%◌, ◌<◌, ◌≤◌};
 
 use crate::pool::SizedPool;
-use crate::steps::Steps;
 use b1_pool::{ListPool, Memory, PoolKind};
+use b1_steps::Steps;
 use std::marker::Brand;
 use std::sync::ledger::{Blank, Ledger};
 use std::test::Fail;
@@ -81,7 +81,7 @@ fn found<L: Ledger>(pool: &SizedPool, len: u32, blank: Blank) -> Option<u32>
     requires parts { blank.parts ≡ L.parts }
     requires some { 0 < blank.parts }
 {
-    let mut steps = Steps::<L>::open(blank);
+    let mut steps = Steps::<L>::start(blank);
     pool.find_counted(len, &mut steps)
 }
 

@@ -70,7 +70,7 @@ module _ {X : Type 0} where
   find_none p (x ∷ xs) h =
       rw (All-head (λ x. p x ≡ false) x xs h) (find_none p xs (All-tail (λ x. p x ≡ false) x xs h))
 
-  All-middle : (P : X → Type 0) (xs ys : List X) (y : X) → All P (xs ++ ys) → P y → All P (xs ++ y ∷ ys)
+  pub All-middle : (P : X → Type 0) (xs ys : List X) (y : X) → All P (xs ++ ys) → P y → All P (xs ++ y ∷ ys)
   All-middle P [] ys y all one = All-cons P y ys one all
   All-middle P (x ∷ xs) ys y all one =
       All-cons P x (xs ++ y ∷ ys) (All-head P x (xs ++ ys) all)

@@ -33,3 +33,21 @@ fn keys_in_order(rt: HostRuntime) -> Result<(), Fail> {
     assert_eq!(rt; queue.take(), None);
     Ok(())
 }
+
+// Three places of one message: staged under odd stamps in any order, committed at 2, and taken by their indexes.
+#[test]
+fn three_places_at_one_peer(rt: HostRuntime) -> Result<(), Fail> {
+    let mut queue = PlainQueue::make(rt.alloc());
+    queue.reserve(3, 3)?;
+    queue.put(key(1, 0, 2), 0);
+    queue.put(key(1, 0, 0), 1);
+    queue.put(key(1, 0, 1), 2);
+    queue.restamp(1, key(2, 0, 0));
+    queue.restamp(2, key(2, 0, 1));
+    queue.restamp(0, key(2, 0, 2));
+    assert_eq!(rt; queue.take(), Some((key(2, 0, 0), 1)));
+    assert_eq!(rt; queue.take(), Some((key(2, 0, 1), 2)));
+    assert_eq!(rt; queue.take(), Some((key(2, 0, 2), 0)));
+    assert_eq!(rt; queue.take(), None);
+    Ok(())
+}

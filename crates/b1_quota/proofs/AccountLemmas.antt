@@ -1,5 +1,5 @@
 -- Sums over accounts, and one user's account among accounts of distinct users.
-use Rattle.std.proofs.Common.{◌≡◌, ◌≢◌, ◌==◌, ℕ, suc, zero, ◌+◌, ◌-◌, ◌<◌, ◌≤◌, Bool, true, false, not, ◌||◌, List, [], ◌∷◌, ◌++◌, length, get_or, set, take, drop, refl, ap, sym, ◌∙◌, arith, eqb, Some, None, Option, inl, inr, subst, cond, zero-add, add-one}
+use Rattle.std.proofs.Common.{◌≡◌, ◌≢◌, ◌==◌, ℕ, suc, zero, ◌+◌, ◌-◌, ◌<◌, ◌≤◌, Bool, true, false, not, ◌||◌, List, [], ◌∷◌, ◌++◌, length, get_or, set, take, drop, refl, ap, sym, ◌∙◌, arith, Some, None, Option, inl, inr, subst, zero-add, add-one}
 use Rattle.std.specs.Prelude.{map, sum_by, All, AllPairs, position, if◌then◌else◌}
 use Rattle.std.specs.List.{list_any, position_or_len}
 use Rattle.std.proofs.lemmas.List.Sums.{sum_by-cons, sum_by_more_le_part, fails_before_first}

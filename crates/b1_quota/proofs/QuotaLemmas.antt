@@ -1,7 +1,7 @@
 -- What a quota that passes leaves room for, and what keeps a quota sound.
-use Rattle.std.proofs.Common.{◌≡◌, ◌==◌, ℕ, ◌+◌, ◌*◌, ◌<◌, ◌≤◌, length, take, get_or, [], ◌∷◌, Bool, true, false, ◌||◌, Option, Some, None, List, refl, sym, subst, ap, ◌∙◌, arith, inl, inr}
-use Rattle.std.specs.Prelude.{if◌then◌else◌, nat_le}
-use Rattle.std.proofs.lemmas.Bool.{cases_Bool, eqb-true}
+use Rattle.std.proofs.Common.{◌≡◌, ◌==◌, ℕ, ◌+◌, ◌<◌, ◌≤◌, length, take, get_or, [], ◌∷◌, Bool, true, false, ◌||◌, None, List, sym, subst, ap, ◌∙◌, arith, inl, inr}
+use Rattle.std.specs.Prelude.{if◌then◌else◌}
+use Rattle.std.proofs.lemmas.Bool.{cases_Bool}
 use Rattle.std.specs.List.{list_any}
 use Rattle.std.proofs.lemmas.List.{take_more}
 use Rattle.std.proofs.lemmas.List.Folds.{list_any-append}
@@ -13,7 +13,7 @@ use Rattle.b1_model.specs.declared.entries.Charge.{Charge}
 use Rattle.b1_model.specs.declared.naming.Limits.{Limits}
 use Rattle.b1_model.specs.MachineTables.{limit_of, within_quota}
 use Rattle.b1_quota.specs.declared.accounts.Account.{Account}
-use Rattle.b1_quota.specs.Accounts.{amount_in, charged_to, own, others, total, with_charge, plus, minus, cleared, users_of, has_account, IsDistinct, IsSound}
+use Rattle.b1_quota.specs.Accounts.{amount_in, charged_to, own, others, total, with_charge, plus, minus, cleared, has_account, IsDistinct, IsSound}
 use Rattle.b1_quota.specs.Charges.{Charges, over}
 use Rattle.b1_quota.proofs.AccountLemmas.{own-others, own-le-total, charged_to-plus, charged_to-minus, charged_to-cleared, users_of-with_charge, users_of-cleared}
 

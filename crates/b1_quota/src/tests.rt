@@ -14,20 +14,38 @@ fn bytes(bytes: u32) -> Charge
     }
 }
 
+fn limits(bytes: u32) -> Limits
+    ensures { result ≡ record { entries = 8; bytes = bytes; handles = 8 } }
+{
+    Limits {
+        entries: 8,
+        bytes,
+        handles: 8,
+    }
+}
+
 // Of 32 bytes a foreign user may fill 16, and the peer's own user what is left.
 #[test]
 fn quota_of_bytes(rt: HostRuntime) -> Result<(), Fail> {
-    let limits = Limits {
-        entries: 8,
-        bytes: 32,
-        handles: 8,
-    };
-    let mut quota = Quota::make(rt.alloc(), limits, 7, &[7, 5, 7, 5])?;
+    let mut quota = Quota::make(rt.alloc(), limits(32), 7, &[7, 5, 7, 5])?;
     assert_eq!(rt; quota.charge(5, bytes(24)), Err(over(0, 0, 24)));
     assert_eq!(rt; quota.charge(5, bytes(16)), Ok(()));
     assert_eq!(rt; quota.charge(5, bytes(8)), Err(over(16, 0, 8)));
     assert_eq!(rt; quota.charge(7, bytes(16)), Ok(()));
     assert_eq!(rt; quota.charge(7, bytes(8)), Err(over(16, 16, 8)));
+    Ok(())
+}
+
+// What is given back may be charged again, and a flush gives back all and sets new limits.
+#[test]
+fn charges_go(rt: HostRuntime) -> Result<(), Fail> {
+    let mut quota = Quota::make(rt.alloc(), limits(32), 7, &[7, 5])?;
+    assert!(rt; quota.charge(5, bytes(16)).is_ok());
+    quota.discharge(5, bytes(8));
+    assert_eq!(rt; quota.charge(5, bytes(16)), Err(over(8, 0, 16)));
+    assert_eq!(rt; quota.charge(5, bytes(8)), Ok(()));
+    quota.flush(limits(64));
+    assert_eq!(rt; quota.charge(5, bytes(32)), Ok(()));
     Ok(())
 }
 

@@ -1,6 +1,6 @@
 use Rattle.std.proofs.Common.{sym, ◌∙◌, arith}
 use Rattle.b1_model.specs.declared.answers.Quantity.TheVariants.{Entries, Bytes, Handles}
-use Rattle.b1_quota.specs.Accounts.{plus, minus}
+use Rattle.b1_quota.specs.Accounts.{minus}
 use Rattle.b1_quota.proofs.AccountLemmas.{found_in, own_read, with_charge_read, absent_in}
 use Rattle.b1_quota.proofs.accounts.charge_less.Goals as goal
 

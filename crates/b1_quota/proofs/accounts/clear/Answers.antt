@@ -1,4 +1,3 @@
-use Rattle.std.proofs.Common.{◌≡◌, ◌++◌, length, drop, take, sym, ◌∙◌, arith}
 use Rattle.b1_quota.proofs.AccountLemmas.{cleared_more}
 use Rattle.b1_quota.proofs.accounts.clear.Goals as goal
 

@@ -1,6 +1,5 @@
-use Rattle.std.proofs.Common.{◌≡◌, ◌+◌, length, take, arith}
+use Rattle.std.proofs.Common.{◌≡◌, take, arith}
 use Rattle.std.proofs.lemmas.List.{take_all}
-use Rattle.b1_quota.specs.Accounts.{own, others, total}
 use Rattle.b1_quota.proofs.AccountLemmas.{no_account, own_more_le, others_more_le, own-others}
 use Rattle.b1_quota.proofs.accounts.shares_of.Goals as goal
 

@@ -1,4 +1,4 @@
-use Rattle.std.proofs.Common.{◌≡◌, ap, ◌∙◌}
+use Rattle.std.proofs.Common.{ap, ◌∙◌}
 use Rattle.b1_quota.specs.Accounts.{minus, users_of}
 use Rattle.b1_quota.specs.Charges.{Charges}
 use Rattle.b1_quota.proofs.AccountLemmas.{users_of-with_charge}

@@ -1,4 +1,3 @@
-use Rattle.std.proofs.Common.{◌≡◌, ◌<◌, length, arith, get_or}
 use Rattle.b1_quota.proofs.AccountLemmas.{with_user-distinct, with_user-uncharged, with_user-has, charged_to-uncharged}
 use Rattle.b1_quota.proofs.QuotaLemmas.{IsSound-uncharged, any_more}
 use Rattle.b1_quota.proofs.quota.Quota.make.Goals as goal

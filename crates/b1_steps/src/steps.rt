@@ -1,11 +1,9 @@
-//! Steps that are counted at no cost.
-
 ghost use Rattle.std.specs.Prelude.{◌≡◌, ℕ, ◌+◌, ◌<◌};
 
 use std::marker::Model;
 use std::sync::ledger::{Blank, Book, Ledger, Share};
 
-/// How many steps were taken: a step is one comparison of two lengths.
+/// How many steps were taken. What a step is, each call that counts them says.
 ///
 /// It takes no bytes, and only `tick` changes it.
 #[derive(Drop)]
@@ -25,8 +23,8 @@ impl<L: Ledger> Model for Steps<L> {
 }
 
 impl<L: Ledger> Steps<L> {
-    /// No step yet, over a new ledger.
-    pub fn open(blank: Blank) -> Self
+    /// No step yet, over a new ledger. The blank's ledger is the one that `L` names.
+    pub fn start(blank: Blank) -> Self
         requires name { blank.name ≡ L.name }
         requires parts { blank.parts ≡ L.parts }
         requires some { 0 < blank.parts }

@@ -1,0 +1,7 @@
+pub mod Sifts
+pub mod InOrder
+pub mod Places
+pub mod Moves
+pub mod Changes
+pub mod Edits
+pub mod Numbered

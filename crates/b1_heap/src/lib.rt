@@ -1,0 +1,10 @@
+//! A peer's queue as a binary heap that knows the place of each item.
+#![tactic(auto)]
+
+mod cells;
+mod heap;
+mod sift;
+#[cfg(test)]
+mod tests;
+
+pub use heap::IndexedHeap;

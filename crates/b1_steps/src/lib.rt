@@ -1,0 +1,8 @@
+//! A count of steps that costs nothing: contracts see the number, and the program keeps none.
+#![tactic(auto)]
+
+mod steps;
+#[cfg(test)]
+mod tests;
+
+pub use steps::Steps;
