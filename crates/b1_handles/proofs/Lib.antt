@@ -1,0 +1,5 @@
+pub mod ListLemmas
+pub mod ChangedRecords
+pub mod Sound
+pub mod Flush
+pub mod FoundRecords

@@ -1,0 +1,4 @@
+use Rattle.b1_handles.proofs.table.HandleTable.expect.Goals as goal
+
+pub invariant_of-self : goal.invariant_of-self
+invariant_of-self c = c.expect_in.ensures.sound c.self.inside.given c.self.invariant

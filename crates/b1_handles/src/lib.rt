@@ -1,0 +1,14 @@
+//! A peer's records of other peers' nodes: how often it holds each, under which number, and how many queued messages
+//! carry it.
+#![tactic(auto)]
+
+mod changes;
+mod handle;
+mod least;
+mod places;
+mod table;
+
+pub use table::{HandleTable, NoHandle};
+
+#[cfg(test)]
+mod tests;

@@ -1,0 +1,198 @@
+ghost use Rattle.std.specs.Prelude.{◌≡◌, ◌+◌, ◌++◌, ◌<◌, ◌^◌, [], false, true, nat_lt, if◌then◌else◌, is_none, IfOk, OnOk, OnErr, IfSome, IfNone, None, Some, MatchResult};
+ghost use Rattle.b1_model.specs.MachineParts.{record_of, record_or_none};
+ghost use Rattle.b1_model.specs.MachineTables.{changed, changed_or_made, more_flight, less_flight, less_held, noticed, made_dead, held_node};
+ghost use Rattle.b1_model.specs.MachineDestroy.{held_items};
+ghost use Rattle.b1_handles.specs.Handles.{flushed_item, gained, needs_notice, number_for, wired, without_node};
+
+use crate::changes::{
+    expect_in, gain_in, give_up_in, mark_dead_in, notify_in, unexpect_in, wire_in,
+};
+use crate::handle::{Handle, Held};
+use crate::least::least_place;
+use crate::places::{index_of, index_of_number};
+use b1_model::NodeRef;
+use std::alloc::{AllocError, Global};
+use std::marker::Model;
+
+/// No node is held under the number.
+#[derive(Clone, Copy, Debug, PartialEq, Eq)]
+pub struct NoHandle;
+
+/// A peer's records of other peers' nodes, in the order of the nodes, and how many numbers were given to them.
+///
+/// A node has a record while it is held, while a queued entry carries it, and while its destroy notice is queued. A number
+/// is given when a node that isn't held becomes held, and ends when it is given up for the last time: the first is 2, each
+/// later one is 4 more than the one before, and none is given twice.
+#[derive(Debug, Drop)]
+pub struct HandleTable {
+    records: Vec<Handle>,
+    given: u64,
+}
+
+impl Model for HandleTable {
+    ghost use Rattle.b1_handles.specs.Handles.{Handles, IsSound};
+
+    ghost Value = { Handles };
+
+    ghost view = { λ t. record { records = t.records.items; given = t.given } };
+
+    ghost invariant = { λ t. IsSound t.given t.records.items };
+}
+
+impl HandleTable {
+    /// A table with no record, which has given no number. It takes no memory.
+    pub fn make(alloc: Global) -> HandleTable
+        ensures { result ≡ record { records = []; given = 0 } }
+    {
+        HandleTable {
+            records: Vec::new(alloc),
+            given: 0,
+        }
+    }
+
+    /// One more queued slot carries a node. The answer is whether its record was made. An error is want of memory, also
+    /// where 2^64 - 1 slots carry the node, and leaves all as it was.
+    pub fn expect(&mut self, node: NodeRef) -> Result<bool, AllocError>
+        ensures made { IfOk result (λ made. made ≡ is_none (record_of node self.old.records)) }
+        ensures expected { OnOk result (self.new ≡ record self.old { records = changed_or_made node more_flight self.old.records }) }
+        ensures unchanged { OnErr result (self.new ≡ self.old) }
+    {
+        expect_in(&mut self.records, node)
+    }
+
+    /// One fewer queued slot carries a node. At least one must carry it. A record that isn't needed any more goes.
+    pub fn unexpect(&mut self, node: NodeRef)
+        requires { 0 < (record_or_none node self.old.records).flight }
+        ensures { self.new ≡ record self.old { records = changed node less_flight self.old.records } }
+    {
+        unexpect_in(&mut self.records, node);
+    }
+
+    /// A carried node arrives: one slot fewer carries it, and it is held once more, under the next number where it wasn't
+    /// held. The answer is its number. A slot must carry the node, it must not be dead, and it must be held less than 2^63
+    /// times; fewer than 2^60 numbers may have been given.
+    pub fn gain(&mut self, node: NodeRef) -> u64
+        requires carried { 0 < (record_or_none node self.old.records).flight }
+        requires not_dead { (record_or_none node self.old.records).dead ≡ false }
+        requires fits { (record_or_none node self.old.records).held < 2 ^ 63 }
+        requires few { self.old.given < 2 ^ 60 }
+        ensures number { result ≡ number_for node self.old }
+        ensures gained { self.new ≡ gained node self.old }
+    {
+        let held = gain_in(&mut self.records, node, 2 + 4 * self.given);
+        count(&mut self.given, held)
+    }
+
+    /// A node is held once more without having been carried, under the next number where it wasn't held. The answer is its
+    /// number. The node must not be dead, and must be held less than 2^63 times; fewer than 2^60 numbers may have been
+    /// given. An error is want of memory, and leaves all as it was.
+    pub fn wire(&mut self, node: NodeRef) -> Result<u64, AllocError>
+        requires not_dead { (record_or_none node self.old.records).dead ≡ false }
+        requires fits { (record_or_none node self.old.records).held < 2 ^ 63 }
+        requires few { self.old.given < 2 ^ 60 }
+        ensures number { IfOk result (λ number. number ≡ number_for node self.old) }
+        ensures wired { OnOk result (self.new ≡ wired node self.old) }
+        ensures unchanged { OnErr result (self.new ≡ self.old) }
+    {
+        let held = wire_in(&mut self.records, node, 2 + 4 * self.given)?;
+        Ok(count(&mut self.given, held))
+    }
+
+    /// A node is held once less; its number ends with the last, and a record that isn't needed any more goes. The answer is
+    /// the node. An error is that no node is held under the number, and leaves all as it was.
+    pub fn give_up(&mut self, number: u64) -> Result<NodeRef, NoHandle>
+        ensures answer { MatchResult result (λ node. held_node number self.old.records ≡ Some node) (λ _. held_node number self.old.records ≡ None) }
+        ensures given_up { IfOk result (λ node. self.new ≡ record self.old { records = changed node less_held self.old.records }) }
+        ensures unchanged { OnErr result (self.new ≡ self.old) }
+    {
+        match give_up_in(&mut self.records, number) {
+            Some(node) => Ok(node),
+            None => Err(NoHandle),
+        }
+    }
+
+    /// Counts a node's destroy notice as queued, where the node has a record and no notice of it is queued. The answer is
+    /// whether that is so.
+    pub fn notify(&mut self, node: NodeRef) -> bool
+        ensures needed { result ≡ needs_notice node self.old.records }
+        ensures notified { self.new ≡ record self.old { records = if result then changed node noticed self.old.records else self.old.records } }
+    {
+        notify_in(&mut self.records, node)
+    }
+
+    /// A node's queued destroy notice has left the queue: its record is dead, and goes where it isn't needed any more. A
+    /// notice of it must be queued.
+    pub fn mark_dead(&mut self, node: NodeRef)
+        requires { (record_or_none node self.old.records).notice ≡ true }
+        ensures { self.new ≡ record self.old { records = changed node made_dead self.old.records } }
+    {
+        mark_dead_in(&mut self.records, node);
+    }
+
+    /// Whether a node has a record that is dead: its destroy notice has left the queue.
+    pub fn is_dead(&self, node: NodeRef) -> bool
+        ensures { result ≡ (record_or_none node self.now.records).dead }
+    {
+        match index_of(&self.records, node) {
+            Some(place) => self.records[place].is_dead(),
+            None => false,
+        }
+    }
+
+    /// Whether a node is held.
+    pub fn is_held(&self, node: NodeRef) -> bool
+        ensures { result ≡ nat_lt 0 (record_or_none node self.now.records).held }
+    {
+        match index_of(&self.records, node) {
+            Some(place) => self.records[place].held() > 0,
+            None => false,
+        }
+    }
+
+    /// The node that is held under a number; `None` where none is.
+    pub fn node_of(&self, number: u64) -> Option<NodeRef>
+        ensures { result ≡ held_node number self.now.records }
+    {
+        match index_of_number(&self.records, number) {
+            Some(place) => Some(self.records[place].node()),
+            None => None,
+        }
+    }
+
+    /// The number under which a node is held; `None` where it isn't.
+    pub fn number_of(&self, node: NodeRef) -> Option<u64>
+        ensures { result ≡ (record_or_none node self.now.records).number }
+    {
+        match index_of(&self.records, node) {
+            Some(place) => self.records[place].number(),
+            None => None,
+        }
+    }
+
+    /// Removes the record of the node that is held under the least number. The answer is the node, and how often it was
+    /// held. Where no node is held it is `None`, and no record is left. The numbers that were given stay counted.
+    pub fn flush_next(&mut self) -> Option<(NodeRef, u64)>
+        ensures next { held_items self.old.given self.old.records ≡ flushed_item result ++ held_items self.new.given self.new.records }
+        ensures removed { IfSome result (λ r. self.new ≡ record self.old { records = without_node r.0 self.old.records }) }
+        ensures emptied { IfNone result (self.new ≡ record self.old { records = [] }) }
+    {
+        let Some(least) = least_place(&self.records) else {
+            self.records.clear();
+            return None;
+        };
+        let handle = self.records.remove(least.place);
+        Some((handle.node(), handle.held()))
+    }
+}
+
+/// Counts a number that is new, and answers it.
+fn count(given: &mut u64, held: Held) -> u64
+    requires { given.old < 2 ^ 60 }
+    ensures number { result ≡ held.number }
+    ensures given { given.new ≡ (if held.is_new then given.old + 1 else given.old) }
+{
+    if held.is_new {
+        *given += 1;
+    }
+    held.number
+}
