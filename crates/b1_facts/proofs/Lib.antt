@@ -1,0 +1,13 @@
+mod Orders
+mod Walking
+mod Lines
+mod Keeping
+mod Starts
+mod Dooms
+mod Standings
+mod Late
+mod SoFar
+mod Step
+mod Next
+mod Ends
+mod Passing

@@ -1,0 +1,6 @@
+pub mod Facts
+pub mod Steps
+pub mod Standing
+pub mod Kept
+pub mod Start
+pub mod Gathering

@@ -1,0 +1,85 @@
+ghost use Rattle.std.specs.Prelude.{◌≡◌, length, IfOk};
+ghost use Rattle.b1_model.specs.Names.{calls_of};
+ghost use Rattle.b1_model.specs.Opening.{IsOpening};
+ghost use Rattle.b1_facts.specs.Facts.{Rises};
+
+use super::*;
+use b1_model::{
+    Answer, Bytes, Call, Calls, Command, Key, Limits, Nums, Opening, PeerCalls, PeerLists,
+    PeerSpec, Peers, Places, Record, SendCmd, Sent, Wires,
+};
+use std::alloc::{AllocError, Global};
+use std::test::Fail;
+
+/// One peer, and no wires.
+fn alone(alloc: Global) -> Result<Opening, AllocError>
+    ensures opens { IfOk result IsOpening }
+    ensures one { IfOk result (λ o. length o.peers ≡ 1) }
+{
+    let spec = PeerSpec {
+        user: 0,
+        pool: 8,
+        limits: Limits {
+            entries: 1,
+            bytes: 8,
+            handles: 1,
+        },
+    };
+    Ok(Opening {
+        first_clock: 0,
+        peers: Peers::from_vec(vec![in alloc; spec]?),
+        wires: Wires::new(alloc),
+    })
+}
+
+/// The peer makes its node 4, and sends a handle of it to it.
+fn to_itself(alloc: Global) -> Result<Record, AllocError>
+    ensures one { IfOk result (λ r. length r.peers ≡ 1) }
+    ensures call { IfOk result (λ r. length (calls_of r 0) ≡ 1) }
+    ensures rises { IfOk result Rises }
+{
+    let send = SendCmd {
+        go_on: false,
+        to: Nums::from_vec(vec![in alloc; 4]?),
+        with: Nums::from_vec(vec![in alloc; 4]?),
+        payload: Bytes::new(alloc),
+    };
+    let sent = Sent {
+        stamp: 2,
+        places: Places::from_vec(vec![in alloc; None]?),
+    };
+    let call = Call {
+        command: Command::Send(send),
+        answer: Answer::Sent(sent),
+    };
+    let peer = PeerCalls {
+        epoch: 0,
+        clock: 2,
+        calls: Calls::from_vec(vec![in alloc; call]?),
+    };
+    Ok(Record {
+        peers: PeerLists::from_vec(vec![in alloc; peer]?),
+    })
+}
+
+#[test]
+fn a_message_to_oneself(rt: HostRuntime) -> Result<(), Fail> {
+    let alloc = rt.alloc();
+    let opening = alone(alloc)?;
+    let record = to_itself(alloc)?;
+    let facts = Facts::gather(alloc, &opening, &record)?;
+    assert_eq!(rt; facts.order().len(), 1);
+    let key = Key {
+        stamp: 2,
+        origin: 0,
+        index: 0,
+    };
+    let walk = Walk::start(alloc, &facts, 0)?;
+    let walk = walk.pass(&facts)?;
+    assert_eq!(rt; walk.call(), 1);
+    assert!(rt; walk.is_message(&facts, &key));
+    let message = facts.message(2, 0).expect(&rt, "the message is there");
+    let handles = walk.arrived(alloc, &facts, &key, message.carried())?;
+    assert_eq!(rt; handles.as_slice(), [4].as_slice());
+    Ok(())
+}

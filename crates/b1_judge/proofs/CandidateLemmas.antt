@@ -1,0 +1,190 @@
+-- What a search along the places of a stamped call, and along the bus order, tells.
+use Rattle.std.specs.Prelude.{◌≡◌, refl, ℕ, ◌<◌, ◌≤◌, ◌⊎◌, ◌↔◌, Bool, true, false, not, ◌&&◌, ◌||◌, ◌==◌, ◌+◌, List, length, get_or, slice_get, find, Option, None, Some, IsTrue}
+use Rattle.std.specs.Borrow.{Bor}
+use Rattle.std.specs.Option.{option_copied, option_flatten}
+use Rattle.std.proofs.Common.{arith, inl, inr, sym, ◌∙◌, ap, subst}
+use Rattle.std.proofs.lemmas.Option.{slice_get_past, slice_get_within, get_or_from_slice_get, same_Some}
+use Rattle.b1_model.specs.declared.naming.Key.{Key}
+use Rattle.b1_model.specs.declared.naming.Wire.{Wire}
+use Rattle.b1_model.specs.declared.records.Record.{Record}
+use Rattle.b1_model.specs.declared.records.Stamp.{Stamp}
+use Rattle.b1_model.specs.declared.answers.Answer.{Answer}
+use Rattle.b1_model.specs.declared.records.Call.{Call}
+use Rattle.b1_model.specs.Names.{Node, calls_of}
+use Rattle.b1_model.specs.Ledger.{Message, message, to_at, Destruction, destructions_of, node_at, doomed_at, is_below, stamp_of, order}
+use Rattle.b1_model.specs.Legal.{last_key, is_above, is_message_in, is_message, is_notice_of, is_notice, is_candidate, IsLeast, IsNextReceipt, KeepsPrefix, HasNoNext}
+use Rattle.b1_ledger.proofs.Sequences.{and_true, and_of, or_true, or_left, or_right, bool_cases}
+use Rattle.b1_facts.specs.Facts.{Gathered, Place, nodes_in, doomed}
+use Rattle.b1_judge.specs.Candidates.{key_at, is_under, is_passed, is_beyond, HasCandidate, HasCandidateOf, HasMessageOf, HasNoticeOf, IsAlong}
+use Rattle.b1_judge.proofs.OrderLemmas.{in_bus_order}
+
+and_false : (b : Bool) → (b && false) ≡ false
+and_false true = refl
+and_false false = refl
+
+-- a search of the places below n, behind which there is none
+pub found_none : (f g : ℕ → Bool) (n : ℕ) → ((i : ℕ) → i < n → (f i && g i) ≡ false) → ((i : ℕ) → n ≤ i → f i ≡ false) → (i : ℕ) → f i ≡ true → g i ≡ true → ⊥
+found_none f g n below past i e h =
+    elim (lt_or i n) [
+      | inl l ↦ cc (below i l, and_of (f i) (g i) e h)
+      | inr l ↦ cc (past i l)
+    ]
+  where
+    lt_or : (i n : ℕ) → (i < n) ⊎ (n ≤ i)
+    lt_or i n = grind arith
+
+-- above a key, under a limit, and so on, in the order of the definition
+pub turned : (a b c : Bool) → ((a && b) && c) ≡ ((a && c) && b)
+turned true true c = and_true_right c
+  where
+    and_true_right : (c : Bool) → c ≡ (c && true)
+    and_true_right true = refl
+    and_true_right false = refl
+turned true false c = sym (and_false c)
+turned false b c = refl
+
+module _ (ws : List Wire) (r : Record) (p k : ℕ) (s : Stamp) where
+  pub no_message : message ws r s.stamp s.origin ≡ None → (i : ℕ) → is_message ws r p k (key_at s i) ≡ false
+  no_message e i = ap (λ o. is_above (key_at s i) (last_key r p k) && is_message_in ws r p k (key_at s i) o) e ∙ and_false (is_above (key_at s i) (last_key r p k))
+
+  pub message_of : (m : Message) (i : ℕ) → message ws r s.stamp s.origin ≡ Some m → is_message ws r p k (key_at s i) ≡ (is_above (key_at s i) (last_key r p k) && is_message_in ws r p k (key_at s i) (Some m))
+  message_of m i e = ap (λ o. is_above (key_at s i) (last_key r p k) && is_message_in ws r p k (key_at s i) o) e
+
+  pub no_message_past : (m : Message) → message ws r s.stamp s.origin ≡ Some m → (i : ℕ) → length m.to ≤ i → is_message ws r p k (key_at s i) ≡ false
+  no_message_past m e i l =
+      let past : to_at m i ≡ None = ap option_flatten (slice_get_past m.to i l) in
+      message_of m i e ∙ ap (λ b. is_above (key_at s i) (last_key r p k) && b) (rw past (by_entry _)) ∙ and_false (is_above (key_at s i) (last_key r p k))
+    where
+      by_entry : (b : Bool) → ((b && false) && false) ≡ false
+      by_entry true = refl
+      by_entry false = refl
+
+  doomed_is : (i : ℕ) → doomed_at ws r (key_at s i) ≡ option_flatten (slice_get (doomed ws r s.stamp s.origin) i)
+  doomed_is i = at_place (find (λ d. d.stamp == s.stamp) (destructions_of ws r s.origin))
+    where
+      at_place : (o : Option Destruction) → node_at i o ≡ option_flatten (slice_get (nodes_in o) i)
+      at_place None = refl
+      at_place (Some d) = refl
+
+  pub notice_of : (i : ℕ) (x : Option Node) → slice_get (doomed ws r s.stamp s.origin) i ≡ Some x → is_notice ws r p k (key_at s i) ≡ (is_above (key_at s i) (last_key r p k) && is_notice_of ws r p k x)
+  notice_of i x e = ap (λ o. is_above (key_at s i) (last_key r p k) && is_notice_of ws r p k o) (doomed_is i ∙ ap option_flatten e)
+
+  pub no_notice_past : (i : ℕ) → length (doomed ws r s.stamp s.origin) ≤ i → is_notice ws r p k (key_at s i) ≡ false
+  no_notice_past i l =
+      ap (λ o. is_above (key_at s i) (last_key r p k) && is_notice_of ws r p k o) (doomed_is i ∙ ap option_flatten (slice_get_past (doomed ws r s.stamp s.origin) i l))
+      ∙ and_false (is_above (key_at s i) (last_key r p k))
+
+-- what is before the call of the last key isn't above it, and what is behind the call of a limit isn't under it
+pub not_above : (s : Stamp) (i : ℕ) (o : Option Key) → is_passed s o ≡ true → is_above (key_at s i) o ≡ false
+not_above s i None e = cc
+not_above s i (Some key) e = grind (arith, e)
+
+pub not_under : (s : Stamp) (i : ℕ) (o : Option Key) → is_beyond s o ≡ true → is_under (key_at s i) o ≡ false
+not_under s i None e = cc
+not_under s i (Some key) e = grind (arith, e)
+
+pub not_between : (at : Place) (s : Stamp) (limit : Option Key) → (not (is_passed s (last_key at.rec at.peer at.call)) && not (is_beyond s limit)) ≡ false → HasCandidateOf at s limit → ⊥
+not_between at s limit e h =
+    by_tests (is_passed s (last_key at.rec at.peer at.call)) (is_beyond s limit) refl refl e
+  where
+    above : is_candidate at.wires at.rec at.peer at.call (key_at s h.0) ≡ true → is_above (key_at s h.0) (last_key at.rec at.peer at.call) ≡ true
+    above c =
+        elim (or_true (is_message at.wires at.rec at.peer at.call (key_at s h.0)) (is_notice at.wires at.rec at.peer at.call (key_at s h.0)) c) [
+          | inl m ↦ (and_true (is_above (key_at s h.0) (last_key at.rec at.peer at.call)) (is_message_in at.wires at.rec at.peer at.call (key_at s h.0) (message at.wires at.rec s.stamp s.origin)) m).0
+          | inr n ↦ (and_true (is_above (key_at s h.0) (last_key at.rec at.peer at.call)) (is_notice_of at.wires at.rec at.peer at.call (doomed_at at.wires at.rec (key_at s h.0))) n).0
+        ]
+
+    by_tests : (a b : Bool) → is_passed s (last_key at.rec at.peer at.call) ≡ a → is_beyond s limit ≡ b → (not a && not b) ≡ false → ⊥
+    by_tests true b f g t = cc (not_above s h.0 (last_key at.rec at.peer at.call) f, above h.1)
+    by_tests false true f g t = cc (not_under s h.0 limit g, h.2)
+    by_tests false false f g t = cc t
+
+-- an entry is a message or a notice
+pub candidate_by : (at : Place) (s : Stamp) (limit : Option Key) (a b : Bool) → (IsTrue a ↔ HasMessageOf at s limit) → (IsTrue b ↔ HasNoticeOf at s limit) → (IsTrue (a || b) ↔ HasCandidateOf at s limit)
+candidate_by at s limit a b m n = (
+  (λ e. elim (or_true a b e) [
+    | inl f ↦ (let h = m.0 f in (h.0, or_left (is_message at.wires at.rec at.peer at.call (key_at s h.0)) (is_notice at.wires at.rec at.peer at.call (key_at s h.0)) h.1, h.2))
+    | inr f ↦ (let h = n.0 f in (h.0, or_right (is_message at.wires at.rec at.peer at.call (key_at s h.0)) (is_notice at.wires at.rec at.peer at.call (key_at s h.0)) h.1, h.2))
+  ]),
+  (λ h. elim (or_true (is_message at.wires at.rec at.peer at.call (key_at s h.0)) (is_notice at.wires at.rec at.peer at.call (key_at s h.0)) h.1) [ inl f ↦ or_left a b (m.1 (h.0, f, h.2)) | inr f ↦ or_right a b (n.1 (h.0, f, h.2)) ]),
+)
+
+-- a walk and what was gathered have the same messages
+pub same_message : (at : Place) (from : Gathered) (stamp q : ℕ) → IsAlong at from → message at.wires at.rec stamp q ≡ message from.wires from.rec stamp q
+same_message at from stamp q along = ap (λ ws. message ws at.rec stamp q) along.wires ∙ ap (λ r. message from.wires r stamp q) along.rec
+
+module _ (at : Place) (from : Gathered) (s : Stamp) (limit : Option Key) (along : IsAlong at from) where
+  -- a message that was looked up
+  pub message_found : (o : Option (Bor Message)) (m : Bor Message) → option_copied o ≡ message from.wires from.rec s.stamp s.origin → o ≡ Some m → message at.wires at.rec s.stamp s.origin ≡ Some m.now
+  message_found o m is found = same_message at from s.stamp s.origin along ∙ sym is ∙ ap option_copied found
+
+  pub message_missed : (o : Option (Bor Message)) → option_copied o ≡ message from.wires from.rec s.stamp s.origin → o ≡ None → HasMessageOf at s limit → ⊥
+  message_missed o is missed h = cc (no_message at.wires at.rec at.peer at.call s (same_message at from s.stamp s.origin along ∙ sym is ∙ ap option_copied missed) h.0, h.1)
+
+  -- a place that may be received next
+  pub message_here : (i : ℕ) → (is_message at.wires at.rec at.peer at.call (key_at s i) && is_under (key_at s i) limit) ≡ true → HasMessageOf at s limit
+  message_here i e = let both = and_true (is_message at.wires at.rec at.peer at.call (key_at s i)) (is_under (key_at s i) limit) e in (i, both.0, both.1)
+
+  pub notice_here : (i : ℕ) → (is_notice at.wires at.rec at.peer at.call (key_at s i) && is_under (key_at s i) limit) ≡ true → HasNoticeOf at s limit
+  notice_here i e = let both = and_true (is_notice at.wires at.rec at.peer at.call (key_at s i)) (is_under (key_at s i) limit) e in (i, both.0, both.1)
+
+  -- the places of a message below n, where it has no more, may not be received next
+  pub message_none : (m : Message) (n : ℕ) → message at.wires at.rec s.stamp s.origin ≡ Some m → length m.to ≤ n → ((i : ℕ) → i < n → (is_message at.wires at.rec at.peer at.call (key_at s i) && is_under (key_at s i) limit) ≡ false) → HasMessageOf at s limit → ⊥
+  message_none m n e few none h =
+      found_none (λ i. is_message at.wires at.rec at.peer at.call (key_at s i)) (λ i. is_under (key_at s i) limit) n none
+      (λ i l. no_message_past at.wires at.rec at.peer at.call s m e i (omega (arith, few, l))) h.0 h.1 h.2
+
+  pub notice_none : (nodes : List (Option Node)) (n : ℕ) → nodes ≡ doomed from.wires from.rec s.stamp s.origin → length nodes ≤ n → ((i : ℕ) → i < n → (is_notice at.wires at.rec at.peer at.call (key_at s i) && is_under (key_at s i) limit) ≡ false) → HasNoticeOf at s limit → ⊥
+  notice_none nodes n is few none h =
+      let e : nodes ≡ doomed at.wires at.rec s.stamp s.origin = rw (along.wires, along.rec) is in
+      let f : length (doomed at.wires at.rec s.stamp s.origin) ≡ length nodes = ap length (sym e) in
+      found_none (λ i. is_notice at.wires at.rec at.peer at.call (key_at s i)) (λ i. is_under (key_at s i) limit) n none
+      (λ i l. no_notice_past at.wires at.rec at.peer at.call s i (omega (arith, few, l, f))) h.0 h.1 h.2
+
+-- an entry has the stamp of a call of its origin
+abbrev pub EntriesCome : Type 0
+EntriesCome = (ws : List Wire) (r : Record) (p k : ℕ) (key : Key) → is_candidate ws r p k key ≡ true → (i : ℕ) × (c : Call) × (slice_get (calls_of r key.origin) i ≡ Some c) × (stamp_of c.answer ≡ Some key.stamp)
+
+-- one more stamped call has no entry that may be received next
+pub stamp_next : (at : Place) (limit : Option Key) (stamps : List Stamp) (n : ℕ) (d : Stamp) (b : Bool) → ((i : ℕ) (s : Stamp) → i < n → slice_get stamps i ≡ Some s → ¬ HasCandidateOf at s limit) → (HasCandidateOf at (get_or stamps n d) limit → IsTrue b) → b ≡ false → (i : ℕ) (s : Stamp) → i < n + 1 → slice_get stamps i ≡ Some s → ¬ HasCandidateOf at s limit
+stamp_next at limit stamps n d b none here e i s l read h = elim (last_or i n l) [ inl below ↦ none i s below read h | inr last ↦ is_last last ]
+  where
+    last_or : (i n : ℕ) → i < n + 1 → (i < n) ⊎ (i ≡ n)
+    last_or i n l = grind arith
+
+    is_last : i ≡ n → ⊥
+    is_last last = cc (here (subst (λ x. HasCandidateOf at x limit) (sym (get_or_from_slice_get stamps i s d read) ∙ ap (λ j. get_or stamps j d) last) h), e)
+
+-- where no stamped call of the bus order has an entry that may be received next, there is none
+pub none_at_all : (at : Place) (from : Gathered) (limit : Option Key) (stamps : List Stamp) (n : ℕ) → IsAlong at from → EntriesCome → stamps ≡ order from.rec → length stamps ≤ n → ((i : ℕ) (s : Stamp) → i < n → slice_get stamps i ≡ Some s → ¬ HasCandidateOf at s limit) → HasCandidate at limit → ⊥
+none_at_all at from limit stamps n along come is few none h =
+    let g = come at.wires at.rec at.peer at.call h.0 h.1 in
+    let place = in_bus_order at.rec h.0.origin g.0 h.0.stamp g.1 g.2 g.3 in
+    let e : stamps ≡ order at.rec = rw along.rec is in
+    let read : slice_get stamps place.0 ≡ Some (record { stamp = h.0.stamp; origin = h.0.origin; call = g.0 }) = rw e place.1 in
+    let inside = slice_get_within stamps place.0 (record { stamp = h.0.stamp; origin = h.0.origin; call = g.0 }) read in
+    none place.0 (record { stamp = h.0.stamp; origin = h.0.origin; call = g.0 }) (omega (arith, few, inside)) read (h.0.index, h.1, h.2)
+
+-- a key is the least, where no entry under it may be received next
+pub least_by : (at : Place) (key : Key) (b : Bool) → (IsTrue b ↔ HasCandidate at (Some key)) → (IsTrue (not b) ↔ IsLeast at.wires at.rec at.peer at.call key)
+least_by at key true h = ((λ e. cc e), (λ least. (let g = h.0 refl in cc (least g.0 g.1, g.2))))
+least_by at key false h =
+    ((λ e other c. elim (bool_cases (is_below other key)) [ inl under ↦ absurd (no (h.1 (other, c, under))) | inr f ↦ f ]), (λ least. refl))
+  where
+    no : false ≡ true → ⊥
+    no e = cc
+
+-- nothing is next, where no entry may be received next
+pub no_next_by : (at : Place) → (HasCandidate at None → ⊥) → HasNoNext at.wires at.rec at.peer at.call
+no_next_by at none key = elim (bool_cases (is_candidate at.wires at.rec at.peer at.call key)) [ inl e ↦ absurd (none (key, e, refl)) | inr e ↦ e ]
+
+pub next_by : (at : Place) → HasCandidate at None → HasNoNext at.wires at.rec at.peer at.call → ⊥
+next_by at h none = cc (none h.0, h.1)
+
+-- what is asked of the call that stands there
+pub asked_of : (Q : Answer → Type 0) (o : Option Call) (c : Call) → o ≡ Some c → Q c.answer → (d : Call) → o ≡ Some d → Q d.answer
+asked_of Q o c at h d is = subst (λ (x : Call). Q x.answer) (same_Some c d (sym at ∙ is)) h
+
+-- the call before which a walk stands keeps the prefix
+pub prefix_by : (at : Place) (c : Call) → slice_get (calls_of at.rec at.peer) at.call ≡ Some c → (b : Bool) → (IsTrue b ↔ IsNextReceipt at.wires at.rec at.peer at.call c.answer) → (IsTrue b ↔ KeepsPrefix at.wires at.rec at.peer at.call)
+prefix_by at c here b h = ((λ e. asked_of (λ a. IsNextReceipt at.wires at.rec at.peer at.call a) (slice_get (calls_of at.rec at.peer) at.call) c here (h.0 e)), (λ kept. h.1 (kept c here)))

@@ -1,0 +1,16 @@
+-- The places of a destruction, one after another.
+use Rattle.std.proofs.Common.{ℕ, ◌≡◌, ◌&&◌, false, sym, ◌∙◌}
+use borrow.Author.Count.{below_more}
+use Rattle.b1_model.specs.Legal.{is_notice}
+use Rattle.b1_judge.specs.Candidates.{key_at, is_under}
+use Rattle.b1_judge.proofs.CandidateLemmas.{notice_none}
+use Rattle.b1_judge.proofs.candidates.has_notice_of.Goals as goal
+
+pub loop-index-preserved : goal.loop-index-preserved
+loop-index-preserved c =
+    below_more (λ (i : ℕ). (is_notice c.args.walk.now.wires c.args.walk.now.rec c.args.walk.now.peer c.args.walk.now.call (key_at c.args.stamp.now i) && is_under (key_at c.args.stamp.now i) c.args.limit) ≡ false)
+    c.loop-index.index c.loop-index.invariant (sym c.is_notice_at.ensures ∙ c.if-is_notice_at.false)
+
+pub returns : goal.returns
+returns c =
+    ((λ e. cc e), (λ h. absurd (notice_none c.args.walk.now c.args.facts.now c.args.stamp.now c.args.limit c.requires c.doomed-nodes.result.now c.loop-index.index c.doomed-nodes.ensures c.loop-index-test.false c.loop-index.invariant h)))
