@@ -2,9 +2,8 @@ ghost use Rattle.std.specs.Prelude.{◌≡◌, []};
 ghost use Rattle.b1_records.specs.Reading.{Gives};
 ghost use Rattle.b1_script.specs.Reading.{gives_foreign, peer_number_at, other_number_at, wire_at, wires_at};
 
-use b1_model::Held;
 use b1_errs::{Cause, NotRead};
-use b1_model::{Wire, Wires};
+use b1_model::{Held, Wire, Wires};
 use b1_records::fields::{long_number, number};
 use std::alloc::Global;
 
