@@ -1,0 +1,14 @@
+pub mod Amongs
+pub mod Digits
+pub mod Languages
+pub mod Prefixes
+pub mod References
+pub mod Slots
+pub mod Invalids
+pub mod Pairs
+pub mod Hex
+pub mod Alphabets
+pub mod Commas
+pub mod Lines
+pub mod Parts
+pub mod Sends

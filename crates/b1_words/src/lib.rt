@@ -1,0 +1,25 @@
+//! The words of the texts: numbers, lists, bytes, keys and commands, read whole, and the bytes that begin one.
+#![tactic(auto)]
+
+mod among;
+mod bytes;
+mod commands;
+mod decimals;
+mod items;
+mod keys;
+mod kinds;
+mod lists;
+mod operands;
+mod splitting;
+
+pub use among::Numbers;
+pub use bytes::{begins_bytes, fits_bytes, read_bytes};
+pub use commands::{begins_command, read_command};
+pub use items::{Form, Item, begins_item, fits_item, read_item};
+pub use keys::{begins_key, fits_key, read_key};
+pub use kinds::{Kind, begins_line, begins_word, fits_line, fits_word};
+pub use lists::{begins_list, fits_list, read_list};
+pub use splitting::{begins_text, is_text, split};
+
+#[cfg(test)]
+mod tests;

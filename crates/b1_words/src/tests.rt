@@ -1,0 +1,45 @@
+use super::*;
+use b1_model::Command;
+use std::test::Fail;
+
+#[test]
+fn operands(rt: HostRuntime) {
+    let handle = Item::Handle(Form::Script);
+    assert_eq!(rt; read_item(handle, b"@1.63"), Some(255));
+    assert_eq!(rt; read_item(handle, b"@1.64"), None);
+    assert_eq!(rt; begins_item(handle, b"1844674407370955161"), true);
+    assert_eq!(rt; begins_item(handle, b"1844674407370955163"), false);
+}
+
+#[test]
+fn a_list(rt: HostRuntime) -> Result<(), Fail> {
+    match read_list(rt.alloc(), Item::Known, 2, b"7,invalid")? {
+        Some(numbers) => assert_eq!(rt; numbers.as_slice(), [7, u64::MAX].as_slice()),
+        None => assert!(rt; false),
+    }
+    Ok(())
+}
+
+#[test]
+fn bytes_as_pairs(rt: HostRuntime) -> Result<(), Fail> {
+    match read_bytes(rt.alloc(), 2, b"0aff")? {
+        Some(bytes) => assert_eq!(rt; bytes.as_slice(), [10, 255].as_slice()),
+        None => assert!(rt; false),
+    }
+    Ok(())
+}
+
+#[test]
+fn a_release(rt: HostRuntime) -> Result<(), Fail> {
+    match read_command(rt.alloc(), Form::Script, b"release 8")? {
+        Some(Command::Release { number }) => assert_eq!(rt; number, 8),
+        _ => assert!(rt; false),
+    }
+    Ok(())
+}
+
+#[test]
+fn a_cut_line(rt: HostRuntime) {
+    assert_eq!(rt; begins_command(Form::Script, b"send 1 to 2,"), true);
+    assert_eq!(rt; begins_command(Form::Report, b"aw"), false);
+}
