@@ -1,1 +1,4 @@
 pub mod Texts
+pub mod LineRuns
+pub mod Gathering
+pub mod Faults

@@ -1,5 +1,5 @@
 -- A text grows by one item.
-use Rattle.std.proofs.Common.{◌≡◌, arith, zero-add, suc, ◌-◌, Result, Ok, Err, OnOk, append_assoc, ℕ, ◌+◌, ◌<◌, List, [], ◌∷◌, ◌++◌, length, take, get_or, refl, sym, ap, ◌∙◌}
+use Rattle.std.proofs.Common.{◌≡◌, arith, zero-add, Result, Ok, Err, OnOk, append_assoc, ℕ, ◌+◌, ◌<◌, List, [], ◌∷◌, ◌++◌, length, take, get_or, ap, ◌∙◌}
 use Rattle.std.specs.List.{flat_map, enumerate_from}
 use Rattle.std.proofs.lemmas.List.{flat_map_more, take_more, length-take-le}
 

@@ -1,9 +1,11 @@
-//! The report's text: what happened on a bus, a line for each call. `docs/FORMATS.md` has its form.
+//! The report's text, both ways: what happened on a bus, a line for each call. `docs/FORMATS.md` has its form.
 #![tactic(auto)]
 
 mod answers;
 mod commands;
+mod drafts;
 mod numbers;
+mod parsing;
 
 ghost use Rattle.std.specs.Prelude.{◌≡◌, ◌++◌, ◌+◌, ◌-◌, ◌<◌, IfOk, OnOk, string_bytes, length};
 ghost use Rattle.b1_report.specs.Report.{call_text, calls_text, peer_text, peers_text, report_text, HasSpelling, AllSpelled, EachSpelled};
@@ -11,6 +13,7 @@ ghost use Rattle.b1_report.specs.Report.{call_text, calls_text, peer_text, peers
 use answers::write_answer;
 use b1_model::{Call, Calls, PeerCalls, Record};
 use commands::write_command;
+pub use parsing::parse;
 use std::alloc::{AllocError, Global};
 use std::fmt::Write;
 

@@ -1,0 +1,19 @@
+//! The lines of a report, read from their texts: answers, calls, and the lines around them.
+#![tactic(auto)]
+
+mod answers;
+mod calls;
+mod fields;
+mod kinds;
+mod lines;
+mod marks;
+mod messages;
+mod reasons;
+mod unread;
+
+pub use answers::{answers_have_texts_of_their_own, read_answer};
+pub use lines::{Line, Place, read_line};
+pub use unread::{Stop, Unread};
+
+#[cfg(test)]
+mod tests;
