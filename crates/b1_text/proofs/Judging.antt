@@ -1,0 +1,79 @@
+-- The tests of a draft, and what they mean.
+use Rattle.std.proofs.Common.{◌≡◌, ◌≢◌, ℕ, ◌+◌, ◌%◌, ◌^◌, ◌<◌, ◌≤◌, Bool, true, false, ◌&&◌, not, cond, eqb, leb, ltb, List, [], ◌∷◌, Option, Some, None, refl, eq-eqb}
+use Rattle.std.specs.Prelude.{IsSomeAnd}
+use Rattle.std.specs.Option.{option_map_or}
+use Rattle.std.specs.List.{list_all, AllByRecursion}
+use Rattle.std.proofs.lemmas.Bool.{leb-true, le-leb, eqb-true, eqb-false, ne_eqb, not-true, not_from_false, ltb-true, lt-ltb}
+use Rattle.b1_model.specs.declared.naming.Wire.{Wire}
+use Rattle.b1_model.specs.Opening.{from_owner, CanWire, IsPool}
+use Rattle.b1_script.specs.Spelling.{most_script}
+use Rattle.b1_script.specs.Reading.{is_first_clock, is_pool, gives_foreign}
+use Rattle.b1_text.specs.Drafts.{can_wire, has_room}
+
+pub both : (a b : Bool) → a ≡ true → b ≡ true → (a && b) ≡ true
+both a b p q = rw (p, q) refl
+
+pub both_of : (a b : Bool) → (a && b) ≡ true → (a ≡ true) × (b ≡ true)
+both_of true b h = (refl, h)
+both_of false b h = absurd cc
+
+-- what a test let pass
+pub passed : {A : Type 0} (b : Bool) (x y : A) → cond b (Some x) None ≡ Some y → (b ≡ true) × (x ≡ y)
+passed true x y h = (refl, cc)
+passed false x y h = absurd cc
+
+pub clock_test : (n : ℕ) → n % 2 ≡ 0 → n ≤ 2 ^ 62 → is_first_clock n ≡ true
+clock_test n even most = both (eqb (n % 2) 0) (leb n (2 ^ 62)) (eq-eqb (n % 2) 0 even) (le-leb n (2 ^ 62) most)
+
+pub clock_is : (n : ℕ) → is_first_clock n ≡ true → (n % 2 ≡ 0) × (n ≤ 2 ^ 62)
+clock_is n h = let b = both_of (eqb (n % 2) 0) (leb n (2 ^ 62)) h in (eqb-true (n % 2) 0 b.0, leb-true n (2 ^ 62) b.1)
+
+pub pool_test : (n : ℕ) → IsPool n → is_pool n ≡ true
+pool_test n p =
+    both (eqb (n % 8) 0 && leb 8 n) (leb n 4194304) (both (eqb (n % 8) 0) (leb 8 n) (eq-eqb (n % 8) 0 p.eighths) (le-leb 8 n p.least)) (le-leb n 4194304 p.most)
+
+pub pool_is : (n : ℕ) → is_pool n ≡ true → IsPool n
+pool_is n h =
+    let b = both_of (eqb (n % 8) 0 && leb 8 n) (leb n 4194304) h in
+    let c = both_of (eqb (n % 8) 0) (leb 8 n) b.0 in
+    record { eighths = eqb-true (n % 8) 0 c.0; least = leb-true 8 n c.1; most = leb-true n 4194304 b.1 }
+
+pub room_test : (len more : ℕ) → len + more ≤ most_script → has_room len more ≡ true
+room_test len more h = le-leb (len + more) most_script h
+
+pub room_is : (len more : ℕ) → has_room len more ≡ true → len + more ≤ most_script
+room_is len more h = leb-true (len + more) most_script h
+
+foreign_is : (given : Option Wire) (to : ℕ) → option_map_or (λ g. not (eqb g.from to)) given false ≡ true → IsSomeAnd given (λ g. g.from ≢ to)
+foreign_is None to h = absurd cc
+foreign_is (Some g) to h = eqb-false g.from to (not-true (eqb g.from to) h)
+
+foreign_test : (given : Option Wire) (to : ℕ) → IsSomeAnd given (λ g. g.from ≢ to) → option_map_or (λ g. not (eqb g.from to)) given false ≡ true
+foreign_test None to h = absurd h
+foreign_test (Some g) to h = not_from_false (eqb g.from to) (ne_eqb g.from to h)
+
+pub wire_test : (n : ℕ) (held : List Wire) (w : Wire) → CanWire n held w → can_wire n held w ≡ true
+wire_test n held w can =
+    both (ltb w.from n && ltb w.to n && not (eqb w.to w.from)) (gives_foreign held w)
+    (both (ltb w.from n && ltb w.to n) (not (eqb w.to w.from)) (both (ltb w.from n) (ltb w.to n) (lt-ltb w.from n can.from) (lt-ltb w.to n can.to)) (not_from_false (eqb w.to w.from) (ne_eqb w.to w.from can.apart)))
+    (foreign_test (from_owner held w) w.to can.gives)
+
+pub wire_is : (n : ℕ) (held : List Wire) (w : Wire) → can_wire n held w ≡ true → CanWire n held w
+wire_is n held w h =
+    let a = both_of (ltb w.from n && ltb w.to n && not (eqb w.to w.from)) (gives_foreign held w) h in
+    let b = both_of (ltb w.from n && ltb w.to n) (not (eqb w.to w.from)) a.0 in
+    let c = both_of (ltb w.from n) (ltb w.to n) b.0 in
+    record {
+      from = ltb-true w.from n c.0;
+      to = ltb-true w.to n c.1;
+      apart = eqb-false w.to w.from (not-true (eqb w.to w.from) b.1);
+      gives = foreign_is (from_owner held w) w.to a.1;
+    }
+
+pub peers_test : (n : ℕ) (ts : List ℕ) → AllByRecursion (λ p. p < n) ts → list_all (λ p. ltb p n) ts ≡ true
+peers_test n [] h = refl
+peers_test n (t ∷ ts) h = both (ltb t n) (list_all (λ p. ltb p n) ts) (lt-ltb t n h.0) (peers_test n ts h.1)
+
+pub peers_are : (n : ℕ) (ts : List ℕ) → list_all (λ p. ltb p n) ts ≡ true → AllByRecursion (λ p. p < n) ts
+peers_are n [] h = tt
+peers_are n (t ∷ ts) h = let b = both_of (ltb t n) (list_all (λ p. ltb p n) ts) h in (ltb-true t n b.0, peers_are n ts b.1)

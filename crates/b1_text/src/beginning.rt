@@ -1,0 +1,133 @@
+ghost use Rattle.std.specs.Prelude.{◌≡◌, ◌==◌, ◌&&◌, ◌<◌, ◌≤◌, ◌+◌, ◌^◌, ◌++◌, ◌↔◌, nat_lt, IsTrue, IfOk, length, codes};
+ghost use Rattle.std.specs.Fmt.{decimal};
+ghost use Rattle.b1_records.specs.Spelling.{Is32, Is64};
+ghost use Rattle.b1_script.specs.Spelling.{IsSpec};
+ghost use Rattle.b1_script.specs.Reading.{is_first_clock};
+ghost use Rattle.b1_words.specs.Numbers.{list_text};
+ghost use Rattle.b1_words.specs.Words.{Spells, Begins};
+ghost use Rattle.b1_text.specs.declared.draft.Draft.TheVariants.{Opened, Listing};
+ghost use Rattle.b1_text.specs.Texts.{peer_text};
+ghost use Rattle.b1_text.specs.Drafts.{IsNext, AreTurns, can_peer, can_turn, has_room, peer_len, turns_len};
+ghost use Rattle.b1_text.specs.Nexts.{IsReached, Passes, HasSpec, AreFew};
+
+use crate::begin_command::begins_next_command;
+use crate::begin_parts::{begins_number, begins_one, begins_several};
+use crate::begin_wire::begins_next_wire;
+use crate::draft::{Draft, MOST_PEERS, MOST_SCRIPT, has_room, peer_len};
+use b1_model::{CommandLists, Commands, Held, Opening};
+use b1_words::{Item, Kind, Numbers, begins_line, begins_text};
+use std::alloc::{AllocError, Global};
+
+/// Whether a line that was cut off can become a line with which a script goes on. An error is want of memory.
+pub fn can_become_next(alloc: Global, draft: &Draft, line: &[u8]) -> Result<bool, AllocError>
+    requires { IsReached draft.now }
+    ensures { IfOk result (λ can. IsTrue can ↔ Begins (IsNext draft.now) line.now) }
+{
+    match draft {
+        Draft::Empty => Ok(begins_text("bus1 script 1", line)),
+        Draft::Named => Ok(begins_clock(line)),
+        Draft::Opened { opening, held, len } => Ok(begins_opened(opening, held, *len, line)),
+        Draft::Listing {
+            opening,
+            lists,
+            list,
+            len,
+        } => begins_listing(alloc, opening, lists, list, *len, line),
+        Draft::Whole(_) => Ok(false),
+    }
+}
+
+fn begins_clock(line: &[u8]) -> bool
+    ensures { IsTrue result ↔ Begins (Spells (λ n. codes "clock " ++ decimal n) (Passes Is64 is_first_clock)) line.now }
+{
+    let clocks = Numbers {
+        least: 0,
+        most: 1 << 62,
+        step: 2,
+    };
+    begins_one("clock ", Item::Among(clocks), line)
+}
+
+fn begins_opened(opening: &Opening, held: &Held, len: usize, line: &[u8]) -> bool
+    requires peers { length opening.now.peers ≤ 64 }
+    requires few { AreFew held.now }
+    ensures { IsTrue result ↔ Begins (IsNext (Opened opening.now held.now len)) line.now }
+{
+    if begins_next_peer(opening, len, line) || begins_next_wire(opening, held, len, line) {
+        return true;
+    }
+    begins_first_list(opening, line)
+}
+
+fn begins_next_peer(opening: &Opening, len: usize, line: &[u8]) -> bool
+    ensures { IsTrue result ↔ Begins (Spells peer_text (Passes IsSpec (λ p. can_peer opening.now p && has_room len (peer_len opening.now)))) line.now }
+{
+    opening.wires.len() == 0
+        && opening.peers.len() < MOST_PEERS
+        && has_room(len, peer_len(opening))
+        && begins_spec(line)
+}
+
+/// Whether the line of a peer of any limits begins with these bytes.
+fn begins_spec(line: &[u8]) -> bool
+    ensures { IsTrue result ↔ Begins (Spells peer_text HasSpec) line.now }
+{
+    let limit = Kind::One(Item::UpTo(u32::MAX as u64));
+    let pools = Numbers {
+        least: 8,
+        most: 4_194_304,
+        step: 8,
+    };
+    let kinds = [
+        Kind::Fixed("peer"),
+        limit,
+        Kind::One(Item::Among(pools)),
+        limit,
+        limit,
+        limit,
+    ];
+    begins_line(b' ', &kinds, line)
+}
+
+fn begins_first_list(opening: &Opening, line: &[u8]) -> bool
+    ensures { IsTrue result ↔ Begins (Spells (λ n. codes "commands " ++ decimal n) (Passes Is32 (λ n. (n == 0) && nat_lt 0 (length opening.now.peers)))) line.now }
+{
+    opening.peers.len() > 0 && begins_number("commands ", 0, line)
+}
+
+fn begins_list(opening: &Opening, lists: usize, line: &[u8]) -> bool
+    requires { lists < 64 }
+    ensures { IsTrue result ↔ Begins (Spells (λ n. codes "commands " ++ decimal n) (Passes Is32 (λ n. (n == lists + 1) && nat_lt n (length opening.now.peers)))) line.now }
+{
+    let next = lists + 1;
+    next < opening.peers.len() && begins_number("commands ", next as u64, line)
+}
+
+fn begins_turns(opening: &Opening, lists: usize, len: usize, line: &[u8]) -> bool
+    requires { lists < 64 }
+    ensures { IsTrue result ↔ Begins (Spells (λ ns. codes "turns " ++ list_text decimal ns) (Passes AreTurns (λ ns. can_turn opening.now (lists + 1) ns && has_room len (turns_len (length ns))))) line.now }
+{
+    if lists + 1 != opening.peers.len() || len > MOST_SCRIPT {
+        return false;
+    }
+    let most = (MOST_SCRIPT - len) / 8 * 2;
+    begins_several("turns ", Item::UpTo(lists as u64), most as u64, line)
+}
+
+fn begins_listing(
+    alloc: Global,
+    opening: &Opening,
+    lists: &CommandLists,
+    _list: &Commands,
+    len: usize,
+    line: &[u8],
+) -> Result<bool, AllocError>
+    requires { length lists.now < 64 }
+    ensures { IfOk result (λ can. IsTrue can ↔ Begins (IsNext (Listing opening.now lists.now _list.now len)) line.now) }
+{
+    let before = lists.len();
+    if begins_list(opening, before, line) || begins_turns(opening, before, len, line) {
+        return Ok(true);
+    }
+    begins_next_command(alloc, len, line)
+}

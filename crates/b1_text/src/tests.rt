@@ -1,0 +1,90 @@
+use super::*;
+use b1_script::{read_whole, write};
+use std::test::Fail;
+
+/// Two peers, a wire from peer 1 to peer 0, a SEND of `hi` by peer 0 and a RECV by peer 1.
+const ONE_MESSAGE: [u8; 168] = [
+    0x42, 0x55, 0x53, 0x31, 0x53, 0x43, 0x52, 0x31, 1, 0, 0, 0, 2, 0, 0, 0, 0, 0, 0, 0, 0, 0, 0, 0,
+    1, 0, 0, 0, 0, 0, 0, 0, 0xa8, 0, 0, 0, 0, 0, 0, 0, 0, 0, 0, 0, 0, 0x10, 0, 0, 0x10, 0, 0, 0, 0,
+    0x10, 0, 0, 0x10, 0, 0, 0, 0, 0, 0, 0, 1, 0, 0, 0, 0, 0x10, 0, 0, 0x10, 0, 0, 0, 0, 0x10, 0, 0,
+    0x10, 0, 0, 0, 0, 0, 0, 0, 1, 0, 0, 0, 0, 0, 0, 0, 4, 0, 0, 0, 0, 0, 0, 0, 1, 0, 0, 0, 0, 0, 0,
+    0, 7, 0, 0, 0, 0, 0, 0, 0, 1, 0, 0, 0, 0, 0, 0, 0, 2, 0, 0, 0, 0, 0, 0, 0, 2, 0, 0, 0, 0, 0, 0,
+    0, 0x68, 0x69, 0, 0, 0, 0, 0, 0, 1, 0, 0, 0, 0, 0, 0, 0, 8, 0, 0, 0, 0, 0, 0, 0,
+];
+
+/// The same as text.
+const TEXT: &str =
+    "bus1 script 1\nclock 0\npeer 0 4096 16 4096 16\npeer 1 4096 16 4096 16\nwire 1 4 0\ncommands 0\nsend 0 to 2 with - data 6869\ncommands 1\nrecv\nturns -\n";
+
+#[test]
+fn one_message_as_text(rt: HostRuntime) -> Result<(), Fail> {
+    let script = assemble(rt.alloc(), TEXT.as_bytes())?;
+    let bytes = write(rt.alloc(), &script)?;
+    assert_eq!(rt; bytes.as_slice(), ONE_MESSAGE.as_slice());
+    Ok(())
+}
+
+#[test]
+fn one_message_printed(rt: HostRuntime) -> Result<(), Fail> {
+    let script = read_whole(rt.alloc(), &ONE_MESSAGE)?;
+    let text = print_script(rt.alloc(), &script)?;
+    assert_eq!(rt; text.as_slice(), TEXT.as_bytes());
+    Ok(())
+}
+
+/// The place where a text breaks; 0 where it is accepted.
+fn place_of(alloc: Global, text: &str) -> usize {
+    match assemble(alloc, text.as_bytes()) {
+        Err(NotRead::Bad { at, .. }) => at,
+        _ => 0,
+    }
+}
+
+#[test]
+fn broken_texts(rt: HostRuntime) -> Result<(), Fail> {
+    let cases = [
+        // A command that isn't known.
+        (
+            "bus1 script 1\nclock 0\npeer 0 4096 16 4096 16\npeer 1 4096 16 4096 16\nwire 1 4 0\ncommands 0\nsend 0 to 2 with - data 6869\ncommands 1\nrecieve\nturns -\n",
+            130,
+        ),
+        // Cut off, and cut off where nothing goes on.
+        ("bus1 script 1\nclo", 17),
+        ("bus1 script 1\nclo ", 14),
+        // An odd clock, and one that can become even.
+        ("bus1 script 1\nclock 1\n", 14),
+        ("bus1 script 1\nclock 1", 21),
+        // A wire to its own peer, and commands of the second peer first.
+        (
+            "bus1 script 1\nclock 0\npeer 0 8 0 0 0\npeer 0 8 0 0 0\nwire 0 4 0\n",
+            52,
+        ),
+        (
+            "bus1 script 1\nclock 0\npeer 0 8 0 0 0\npeer 0 8 0 0 0\ncommands 1\n",
+            52,
+        ),
+        // A turn of no peer, and a line behind the turns.
+        (
+            "bus1 script 1\nclock 0\npeer 0 8 0 0 0\ncommands 0\nturns 1\n",
+            48,
+        ),
+        (
+            "bus1 script 1\nclock 0\npeer 0 8 0 0 0\ncommands 0\nturns 0\n\n",
+            56,
+        ),
+    ];
+    for (text, place) in cases {
+        assert_eq!(rt; place_of(rt.alloc(), text), place);
+    }
+    Ok(())
+}
+
+#[test]
+fn greatest_operands(rt: HostRuntime) -> Result<(), Fail> {
+    let text =
+        "bus1 script 1\nclock 0\npeer 0 8 0 0 0\ncommands 0\nrelease @144115188075855871.63\nslice @9223372036854775807\nturns 0\n";
+    let script = assemble(rt.alloc(), text.as_bytes())?;
+    let back = print_script(rt.alloc(), &script)?;
+    assert_eq!(rt; back.as_slice(), text.as_bytes());
+    Ok(())
+}
