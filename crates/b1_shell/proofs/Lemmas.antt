@@ -1,5 +1,5 @@
 -- What the functions' proofs cite: of played scripts, of reports, and of inputs.
-use Rattle.std.proofs.Common.{◌≡◌, ◌≢◌, refl, sym, ap, subst, ◌∙◌, arith, inl, inr, ◌⊎◌, ℕ, ◌+◌, ◌%◌, ◌<◌, ◌≤◌, Bool, true, false, not, ◌&&◌, ◌==◌, nat_lt, nat_le, List, [], ◌∷◌, length, slice_index, get_or, Option, Some, None, IfSome, All, map, string_bytes, codes, true≢false, lt-ltb}
+use Rattle.std.proofs.Common.{◌-◌, take, drop, ◌≡◌, ◌≢◌, refl, sym, ap, subst, ◌∙◌, arith, inl, inr, ◌⊎◌, ℕ, ◌+◌, ◌%◌, ◌<◌, ◌≤◌, Bool, true, false, not, ◌&&◌, ◌==◌, nat_lt, nat_le, List, [], ◌∷◌, length, slice_index, get_or, Option, Some, None, IfSome, All, map, string_bytes, codes, true≢false, lt-ltb}
 use Rattle.std.proofs.lemmas.Bool.{cases_eq, false≢true}
 use Rattle.std.proofs.lemmas.List.Elements.{All-from_recursion, recursion_from_All}
 use Rattle.std.specs.List.{list_all, AllByRecursion}
@@ -24,8 +24,20 @@ use Rattle.b1_serial.specs.Serial.{IsPlayedWire, IsPlayedSend, IsPlayed, IsPlaya
 use Rattle.b1_io.specs.declared.wholes.NotAll.{NotAll}
 use Rattle.b1_io.specs.declared.wholes.NotAll.TheVariants.{Long}
 use Rattle.b1_io.specs.Whole.{OnLong}
+use Rattle.b1_errs.specs.declared.Cause.{Cause}
+use Rattle.b1_errs.specs.declared.NotRead.TheVariants as unread
+use Rattle.b1_report.specs.Parsing as reports
 use Rattle.b1_shell.specs.declared.Said.TheVariants.{Bad}
-use Rattle.b1_shell.specs.Answers.{Says}
+use Rattle.b1_shell.specs.declared.forms.Form.{Form}
+use Rattle.b1_shell.specs.declared.forms.Form.TheVariants.{Play, Asm, Dump, Check}
+use Rattle.b1_shell.specs.Answers.{Says, IsRefused, IsSaid, TookPart}
+use Rattle.b1_shell.specs.Faults.{IsFault, long, report}
+use Rattle.b1_script.specs.Spelling.{IsScript}
+use Rattle.b1_errs.specs.declared.NotRead.{NotRead}
+use Rattle.b1_io.specs.Streams.{TookSuch}
+use Rattle.b1_shell.specs.declared.Said.{Said}
+use Rattle.b1_shell.specs.Forms.{most_input, most_check}
+use Rattle.std.proofs.lemmas.List.{length-drop, take_all}
 use Rattle.b1_shell.specs.Texts.{bad_line}
 use Rattle.b1_shell.specs.Built.{IsBuilt, is_plain, is_played, is_own_wire, is_built}
 
@@ -169,14 +181,39 @@ pub followed : (left : Option (List ℕ)) (P Q : List ℕ → Type 0) → ((held
 followed None P Q f h = tt
 followed (Some held) P Q f h = f held h
 
--- a list of one value, and what a function gives of it
-pub one_value : {A : Type 0} (f : A → List ℕ) (ws : List A) (w : A) (text : List ℕ) → 1 ≤ length ws → length ws < 2 → w ≡ get_or ws 0 w → f w ≡ text → map f ws ≡ text ∷ []
-one_value f [] w text some few is same = absurd (omega (arith, some))
-one_value f (x ∷ []) w text some few is same = ap (λ y. f y ∷ []) (sym is) ∙ ap (λ t. t ∷ []) same
-one_value f (x ∷ y ∷ ws) w text some few is same = absurd (omega (arith, few))
+-- too many bytes are a fault of any form
+pub long_is_fault : (form : Form) (bytes : List ℕ) → most_input form < length bytes → IsFault form bytes (most_input form) causes.Long
+long_is_fault Play bytes h = long_is_bad bytes h
+long_is_fault Asm bytes h = (refl, h)
+long_is_fault Dump bytes h = long_is_bad bytes h
+long_is_fault Check bytes h = long h refl refl
+
+-- a fault with its line is why an input is refused
+pub refused : (form : Form) (bytes text : List ℕ) (at : ℕ) (cause : Cause) → IsFault form bytes at cause → text ≡ bad_line at cause → IsRefused form bytes text
+refused Play bytes text at cause fault same = inl (record { at = at; cause = cause; fault = fault; text_is = same })
+refused Asm bytes text at cause fault same = record { at = at; cause = cause; fault = fault; text_is = same }
+refused Dump bytes text at cause fault same = record { at = at; cause = cause; fault = fault; text_is = same }
+refused Check bytes text at cause fault same = record { at = at; cause = cause; fault = fault; text_is = same }
 
 -- of too many bytes it is said that they are too many
-pub long_said : (e : NotAll) (left : Option (List ℕ)) (text : List ℕ) → e ≡ Long → OnLong e (IfSome left (λ held. most_script < length held)) → text ≡ bad_line most_script causes.Long → IfSome left (λ held. Says held Bad text)
-long_said e None text is h same = tt
-long_said e (Some held) text is h same =
-    inl (record { at = most_script; cause = causes.Long; fault = long_is_bad held (subst (λ (w : NotAll). OnLong w (most_script < length held)) is h); text_is = same })
+pub long_said : (form : Form) (limit : ℕ) (e : NotAll) (left : Option (List ℕ)) (text : List ℕ) → limit ≡ most_input form → e ≡ Long → OnLong e (IfSome left (λ held. limit < length held)) → text ≡ bad_line limit causes.Long → IfSome left (λ held. Says form held Bad text)
+long_said form limit e None text most is h same = tt
+long_said form limit e (Some held) text most is h same =
+    let above = subst (λ (w : NotAll). OnLong w (limit < length held)) is h in
+    refused form held text limit causes.Long (subst (λ n. IsFault form held n causes.Long) (sym most) (long_is_fault form held (rw (sym most) above))) same
+
+-- what is behind a place, as it is read
+behind : (bytes : List ℕ) (end : ℕ) → take (length bytes - end) (drop end bytes) ≡ drop end bytes
+behind bytes end = let n = length-drop end bytes in take_all (length bytes - end) (drop end bytes) (omega (arith, n))
+
+-- a fault of the report behind a script is one of the input
+pub report_fault : (input : List ℕ) (s : Script) (end inner peers : ℕ) (cause : Cause) (why : NotRead) → length input ≤ most_check → IsScript input s end → peers ≡ length s.opening.peers → why ≡ unread.Bad inner cause → reports.TellsFault peers (take (length input - end) (drop end input)) why → IsFault Check input (end + inner) cause
+report_fault input s end inner peers cause why few stands count is fault =
+    let counted : reports.TellsFault (length s.opening.peers) (take (length input - end) (drop end input)) why = subst (λ n. reports.TellsFault n (take (length input - end) (drop end input)) why) count fault in
+    let seen : reports.TellsFault (length s.opening.peers) (drop end input) why = subst (λ tail. reports.TellsFault (length s.opening.peers) tail why) (behind input end) counted in
+    report few s end inner stands (subst (λ (w : NotRead). reports.TellsFault (length s.opening.peers) (drop end input) w) is seen) refl
+
+-- a part of what is said of the held bytes was taken
+pub took_part : (form : Form) (said : Said) (left old new : Option (List ℕ)) (text shown : List ℕ) → shown ≡ text → TookSuch old new shown (λ n. n < length shown) → IfSome left (λ held. Says form held said text) → IfSome left (λ held. TookPart old new (IsSaid form held))
+took_part form said None old new text shown same took says = tt
+took_part form said (Some held) old new text shown same took says = (text, (said, says), subst (λ (t : List ℕ). TookSuch old new t (λ n. n < length t)) same took)

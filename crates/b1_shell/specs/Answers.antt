@@ -1,20 +1,29 @@
 -- What a call of the program says of its input.
-use Rattle.std.specs.Prelude.{◌≡◌, ℕ, ◌<◌, ◌⊎◌, List, [], ◌∷◌, Option, Some, length}
+use Rattle.std.specs.Prelude.{◌≡◌, ℕ, ◌<◌, ◌⊎◌, List, Option, drop, length}
 use Rattle.b1_errs.specs.declared.Cause.{Cause}
 use Rattle.b1_errs.specs.declared.Cause.TheVariants.{Later}
 use Rattle.b1_io.specs.Streams.{Took, TookSuch}
+use Rattle.b1_judge.specs.declared.verdict.Clause.{Clause}
+use Rattle.b1_judge.specs.Judged.{AllHold, IsFirstBreak}
 use Rattle.b1_model.specs.declared.records.Record.{Record}
 use Rattle.b1_model.specs.Legal.{Legal, Whole}
 use Rattle.b1_model.specs.Script as follows
 use Rattle.b1_report.specs.Report.{report_text}
+use Rattle.b1_report.specs.Parsing as reports
 use Rattle.b1_script.specs.declared.script.Script.{Script}
-use Rattle.b1_script.specs.Reading.{bad}
-use Rattle.b1_script.specs.Spelling.{IsWhole}
+use Rattle.b1_script.specs.Spelling.{IsScript, IsWhole}
 use Rattle.b1_serial.specs.Serial.{serial, memory}
+use Rattle.b1_text.specs.Accepted.{IsText}
+use Rattle.b1_text.specs.Texts.{script_text}
 use Rattle.b1_shell.specs.declared.Said.{Said}
-use Rattle.b1_shell.specs.declared.Said.TheVariants.{Done, Bad}
+use Rattle.b1_shell.specs.declared.Said.TheVariants.{Done, Bad, Broken}
+use Rattle.b1_shell.specs.declared.forms.Form.{Form}
+use Rattle.b1_shell.specs.declared.forms.Form.TheVariants.{Play, Asm, Dump, Check}
 use Rattle.b1_shell.specs.Built.{IsBuilt}
-use Rattle.b1_shell.specs.Texts.{bad_line}
+use Rattle.b1_shell.specs.Faults.{IsFault}
+use Rattle.b1_shell.specs.Texts.{bad_line, legal_line, broken_line}
+
+-- ---- play
 
 -- the text is the report of what the serial bus did with the script, which is legal, whole and the script's
 pub record IsReport (s : Script) (text : List ℕ) : Type 0 where
@@ -32,13 +41,6 @@ pub record IsPlayed (input text : List ℕ) : Type 0 where
   pub built : IsBuilt script
   pub report : IsReport script text
 
--- the input has a fault, and the text says where the first one is, and its cause
-pub record IsFaulty (input text : List ℕ) : Type 0 where
-  pub at : ℕ
-  pub cause : Cause
-  pub fault : bad input ≡ Some (at, cause)
-  pub text_is : text ≡ bad_line at cause
-
 -- the input is a script that isn't played yet, and the text says so
 pub record IsLater (input text : List ℕ) : Type 0 where
   pub script : Script
@@ -46,23 +48,94 @@ pub record IsLater (input text : List ℕ) : Type 0 where
   pub unbuilt : IsBuilt script → ⊥
   pub text_is : text ≡ bad_line 0 Later
 
+-- ---- asm and dump
+
+-- the input is the text of a script, and the text is that script
+pub record IsAssembled (input text : List ℕ) : Type 0 where
+  pub script : Script
+  pub spelled : IsText input script
+  pub written : IsWhole text script
+
+-- the input is a script, and the text is its text
+pub record IsDumped (input text : List ℕ) : Type 0 where
+  pub script : Script
+  pub spelled : IsWhole input script
+  pub written : IsText text script
+
+-- ---- check
+
+-- the input is a script, and behind it the report of a record of as many peers, to its end
+pub record HasReport (input : List ℕ) (s : Script) (r : Record) : Type 0 where
+  pub end : ℕ
+  pub script : IsScript input s end
+  pub report : reports.IsReport (length s.opening.peers) (drop end input) r
+
+-- the report behind the script is legal, and the text says so
+pub record IsLegal (input text : List ℕ) : Type 0 where
+  pub script : Script
+  pub outcome : Record
+  pub has : HasReport input script outcome
+  pub holds : AllHold script outcome
+  pub text_is : text ≡ legal_line
+
+-- the report behind the script isn't legal, and the text says which part is broken first, and where
+pub record IsIllegal (input text : List ℕ) : Type 0 where
+  pub script : Script
+  pub outcome : Record
+  pub has : HasReport input script outcome
+  pub clause : Clause
+  pub peer : ℕ
+  pub call : ℕ
+  pub first : IsFirstBreak script outcome clause peer call
+  pub text_is : text ≡ broken_line clause peer call
+
+-- ---- any of them
+
+-- what was asked for is done, and the text is what it gives
+abbrev pub IsDone : Form → List ℕ → List ℕ → Type 0
+IsDone Play input text = IsPlayed input text
+IsDone Asm input text = IsAssembled input text
+IsDone Dump input text = IsDumped input text
+IsDone Check input text = IsLegal input text
+
+-- the input has a fault, and the text says where the first one is, and its cause
+pub record IsFaulty (form : Form) (input text : List ℕ) : Type 0 where
+  pub at : ℕ
+  pub cause : Cause
+  pub fault : IsFault form input at cause
+  pub text_is : text ≡ bad_line at cause
+
 -- the input is refused, and the text says why
-abbrev pub IsRefused : List ℕ → List ℕ → Type 0
-IsRefused input text = IsFaulty input text ⊎ IsLater input text
+abbrev pub IsRefused : Form → List ℕ → List ℕ → Type 0
+IsRefused Play input text = IsFaulty Play input text ⊎ IsLater input text
+IsRefused form input text = IsFaulty form input text
 
--- the text is what is said of an input: its report, or why it is refused
-abbrev pub IsSaid : List ℕ → List ℕ → Type 0
-IsSaid input text = IsPlayed input text ⊎ IsRefused input text
+-- the report is not legal, and the text says where
+abbrev pub IsBroken : Form → List ℕ → List ℕ → Type 0
+IsBroken Check input text = IsIllegal input text
+IsBroken form input text = ⊥
 
--- what each kind of text says of a script
+-- what each kind of text says of an input
+abbrev pub Says : Form → List ℕ → Said → List ℕ → Type 0
+Says form input Done text = IsDone form input text
+Says form input Bad text = IsRefused form input text
+Says form input Broken text = IsBroken form input text
+
+-- the status with each kind of text
+abbrev pub status : Said → ℕ
+status Done = 0
+status Bad = 2
+status Broken = 7
+
+-- the text is what is said of an input
+abbrev pub IsSaid : Form → List ℕ → List ℕ → Type 0
+IsSaid form input text = (said : Said) × Says form input said text
+
+-- what each kind of text says of a script that is to be played
 abbrev pub SaysOf : Script → Said → List ℕ → Type 0
 SaysOf s Done text = IsBuilt s × IsReport s text
 SaysOf s Bad text = (IsBuilt s → ⊥) × (text ≡ bad_line 0 Later)
-
--- what each kind of text says of an input
-abbrev pub Says : List ℕ → Said → List ℕ → Type 0
-Says input Done text = IsPlayed input text
-Says input Bad text = IsRefused input text
+SaysOf s Broken text = ⊥
 
 -- a text of this kind was taken
 abbrev pub TookText : Option (List ℕ) → Option (List ℕ) → (List ℕ → Type 0) → Type 0

@@ -4,7 +4,7 @@ use super::*;
 use b1_io::{MemSink, MemSource};
 use std::test::Fail;
 
-// The words, the numbers of a script, and the status and the text that they give.
+// The numbers of a script that is played, and the status and the text that they give.
 struct Row {
     numbers: &'static [u32],
     status: u8,
@@ -15,6 +15,15 @@ const ONE_MESSAGE: [u32; 42] = [
     0x31535542, 0x31524353, 1, 2, 0, 0, 1, 0, 168, 0, 0, 4096, 16, 4096, 16, 0, 1, 4096, 16, 4096,
     16, 0, 1, 0, 4, 0, 1, 0, 7, 0, 1, 0, 2, 0, 2, 0, 26984, 0, 1, 0, 8, 0,
 ];
+
+const TWO_IN_ORDER: [u32; 56] = [
+    0x31535542, 0x31524353, 1, 2, 0, 0, 1, 0, 224, 0, 0, 4096, 16, 4096, 16, 0, 1, 4096, 16, 4096,
+    16, 0, 1, 0, 4, 0, 2, 0, 7, 0, 1, 0, 1, 0, 2, 0, 97, 0, 7, 0, 1, 0, 1, 0, 2, 0, 98, 0, 3, 0, 8,
+    0, 8, 0, 8, 0,
+];
+
+const TWO_IN_ORDER_REPORT: &str =
+    "bus1 report 1\npeers 2\npeer 0 epoch 0 clock 4\nsend 0 to 2 with - data 61 = sent 2 ok\nsend 0 to 2 with - data 62 = sent 4 ok\npeer 1 epoch 0 clock 4\nrecv = data 2.0.0 node 4 slice 0 handles - bytes 61\nrecv = data 4.0.0 node 4 slice 8 handles - bytes 62\nrecv = refused EAGAIN:absent\nend\n";
 
 const ROWS: [Row; 8] = [
     // one message
@@ -35,13 +44,9 @@ const ROWS: [Row; 8] = [
     },
     // two in order then absent
     Row {
-        numbers: &[
-            0x31535542, 0x31524353, 1, 2, 0, 0, 1, 0, 224, 0, 0, 4096, 16, 4096, 16, 0, 1, 4096,
-            16, 4096, 16, 0, 1, 0, 4, 0, 2, 0, 7, 0, 1, 0, 1, 0, 2, 0, 97, 0, 7, 0, 1, 0, 1, 0, 2,
-            0, 98, 0, 3, 0, 8, 0, 8, 0, 8, 0,
-        ],
+        numbers: &TWO_IN_ORDER,
         status: 0,
-        text: "bus1 report 1\npeers 2\npeer 0 epoch 0 clock 4\nsend 0 to 2 with - data 61 = sent 2 ok\nsend 0 to 2 with - data 62 = sent 4 ok\npeer 1 epoch 0 clock 4\nrecv = data 2.0.0 node 4 slice 0 handles - bytes 61\nrecv = data 4.0.0 node 4 slice 8 handles - bytes 62\nrecv = refused EAGAIN:absent\nend\n",
+        text: TWO_IN_ORDER_REPORT,
     },
     // least free slice
     Row {
@@ -109,18 +114,28 @@ fn words_of(alloc: Global, texts: &[&'static str]) -> Result<Vec<String>, AllocE
     Ok(words)
 }
 
-// The status of `play` on an input, and the sink behind it. Both ends move 64 bytes in a call.
-fn play_input(
+// The status of a word on an input, and the sink behind it. Both ends move 64 bytes in a call.
+fn ask(
     alloc: Global,
+    word: &'static str,
     input: Vec<u8>,
     read_fails: Vec<u64>,
     write_fails: Vec<u64>,
 ) -> Result<(u8, MemSink), AllocError> {
-    let words = words_of(alloc, &["play"])?;
+    let words = words_of(alloc, &[word])?;
     let mut source = MemSource::make(input, 64, read_fails);
     let mut sink = MemSink::make(alloc, 4096, 64, write_fails)?;
     let status = quiet(alloc, &words, &mut source, &mut sink);
     Ok((status, sink))
+}
+
+// The status of a word on an input, and the sink behind it, where no call fails.
+fn answer_to(
+    alloc: Global,
+    word: &'static str,
+    input: Vec<u8>,
+) -> Result<(u8, MemSink), AllocError> {
+    ask(alloc, word, input, Vec::new(alloc), Vec::new(alloc))
 }
 
 #[test]
@@ -128,7 +143,7 @@ fn rows(rt: HostRuntime) -> Result<(), Fail> {
     let alloc = rt.alloc();
     for row in &ROWS {
         let input = bytes_of(alloc, row.numbers)?;
-        let (status, sink) = play_input(alloc, input, Vec::new(alloc), Vec::new(alloc))?;
+        let (status, sink) = answer_to(alloc, "play", input)?;
         assert_eq!(rt; status, row.status);
         assert_eq!(rt; sink.taken(), row.text.as_bytes());
     }
@@ -140,12 +155,12 @@ fn cut_and_trailing(rt: HostRuntime) -> Result<(), Fail> {
     let alloc = rt.alloc();
     let mut cut = bytes_of(alloc, &ONE_MESSAGE)?;
     cut.truncate(167);
-    let (status, sink) = play_input(alloc, cut, Vec::new(alloc), Vec::new(alloc))?;
+    let (status, sink) = answer_to(alloc, "play", cut)?;
     assert_eq!(rt; status, 2);
     assert_eq!(rt; sink.taken(), b"bad input at 164: short\n".as_slice());
     let mut longer = bytes_of(alloc, &ONE_MESSAGE)?;
     longer.push(0)?;
-    let (status, sink) = play_input(alloc, longer, Vec::new(alloc), Vec::new(alloc))?;
+    let (status, sink) = answer_to(alloc, "play", longer)?;
     assert_eq!(rt; status, 2);
     assert_eq!(rt; sink.taken(), b"bad input at 168: trailing\n".as_slice());
     Ok(())
@@ -173,15 +188,70 @@ fn usage(rt: HostRuntime) -> Result<(), Fail> {
 fn failing_reads_and_writes(rt: HostRuntime) -> Result<(), Fail> {
     let alloc = rt.alloc();
     let input = bytes_of(alloc, &ONE_MESSAGE)?;
-    let (status, sink) = play_input(alloc, input, [1].to_vec(alloc)?, Vec::new(alloc))?;
+    let (status, sink) = ask(alloc, "play", input, [1].to_vec(alloc)?, Vec::new(alloc))?;
     assert_eq!(rt; status, 4);
     assert!(rt; sink.taken().is_empty());
     // The write that fails, and how many bytes were taken before it.
     for (fails, count) in [(0u64, 0usize), (1, 64)] {
         let input = bytes_of(alloc, &ONE_MESSAGE)?;
-        let (status, sink) = play_input(alloc, input, Vec::new(alloc), [fails].to_vec(alloc)?)?;
+        let (status, sink) = ask(
+            alloc,
+            "play",
+            input,
+            Vec::new(alloc),
+            [fails].to_vec(alloc)?,
+        )?;
         assert_eq!(rt; status, 5);
         assert_eq!(rt; sink.taken(), &ROWS[0].text.as_bytes()[..count]);
+    }
+    Ok(())
+}
+
+const ONE_MESSAGE_TEXT: &str =
+    "bus1 script 1\nclock 0\npeer 0 4096 16 4096 16\npeer 1 4096 16 4096 16\nwire 1 4 0\ncommands 0\nsend 0 to 2 with - data 6869\ncommands 1\nrecv\nturns -\n";
+
+const MISSPELLED_TEXT: &str =
+    "bus1 script 1\nclock 0\npeer 0 4096 16 4096 16\npeer 1 4096 16 4096 16\nwire 1 4 0\ncommands 0\nsend 0 to 2 with - data 6869\ncommands 1\nrecieve\nturns -\n";
+
+#[test]
+fn one_message_as_text(rt: HostRuntime) -> Result<(), Fail> {
+    let alloc = rt.alloc();
+    let script = bytes_of(alloc, &ONE_MESSAGE)?;
+    let text = Vec::from_slice(alloc, ONE_MESSAGE_TEXT.as_bytes())?;
+    let (status, sink) = answer_to(alloc, "asm", text)?;
+    assert_eq!(rt; status, 0);
+    assert_eq!(rt; sink.taken(), script.as_slice());
+    let (status, sink) = answer_to(alloc, "dump", script)?;
+    assert_eq!(rt; status, 0);
+    assert_eq!(rt; sink.taken(), ONE_MESSAGE_TEXT.as_bytes());
+    let text = Vec::from_slice(alloc, MISSPELLED_TEXT.as_bytes())?;
+    let (status, sink) = answer_to(alloc, "asm", text)?;
+    assert_eq!(rt; status, 2);
+    assert_eq!(rt; sink.taken(), b"bad input at 130: line\n".as_slice());
+    Ok(())
+}
+
+const EXCHANGED_REPORT: &str =
+    "bus1 report 1\npeers 2\npeer 0 epoch 0 clock 4\nsend 0 to 2 with - data 61 = sent 2 ok\nsend 0 to 2 with - data 62 = sent 4 ok\npeer 1 epoch 0 clock 4\nrecv = data 4.0.0 node 4 slice 8 handles - bytes 62\nrecv = data 2.0.0 node 4 slice 0 handles - bytes 61\nrecv = refused EAGAIN:absent\nend\n";
+
+const SHORTER_REPORT: &str =
+    "bus1 report 1\npeers 2\npeer 0 epoch 0 clock 4\nsend 0 to 2 with - data 61 = sent 2 ok\nsend 0 to 2 with - data 62 = sent 4 ok\npeer 1 epoch 0 clock 4\nrecv = data 2.0.0 node 4 slice 0 handles - bytes 61\nrecv = refused EAGAIN:absent\nend\n";
+
+#[test]
+fn legal_and_broken_reports(rt: HostRuntime) -> Result<(), Fail> {
+    let alloc = rt.alloc();
+    let cases = [
+        (TWO_IN_ORDER_REPORT, 0, "legal\n"),
+        (EXCHANGED_REPORT, 7, "not legal: prefix peer 1 call 0\n"),
+        (SHORTER_REPORT, 7, "not legal: script peer 1 call 2\n"),
+        ("bus1 report 1\npeers 3\n", 2, "bad input at 238: line\n"),
+    ];
+    for (report, wanted, line) in cases {
+        let mut input = bytes_of(alloc, &TWO_IN_ORDER)?;
+        input.extend_from_slice(report.as_bytes())?;
+        let (status, sink) = answer_to(alloc, "check", input)?;
+        assert_eq!(rt; status, wanted);
+        assert_eq!(rt; sink.taken(), line.as_bytes());
     }
     Ok(())
 }

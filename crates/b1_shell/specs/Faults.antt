@@ -1,0 +1,26 @@
+-- The faults of an input, by what is done with it.
+use Rattle.std.specs.Prelude.{◌≡◌, ℕ, ◌+◌, ◌<◌, ◌≤◌, List, length, drop, Some}
+use Rattle.b1_errs.specs.declared.Cause.{Cause}
+use Rattle.b1_errs.specs.declared.Cause.TheVariants.{Long}
+use Rattle.b1_errs.specs.declared.NotRead.TheVariants as unread
+use Rattle.b1_report.specs.Parsing as reports
+use Rattle.b1_script.specs.declared.script.Script.{Script}
+use Rattle.b1_script.specs.Reading.{bad, bad_script}
+use Rattle.b1_script.specs.Spelling.{IsScript}
+use Rattle.b1_text.specs.Accepted as texts
+use Rattle.b1_shell.specs.declared.forms.Form.{Form}
+use Rattle.b1_shell.specs.declared.forms.Form.TheVariants.{Play, Asm, Dump, Check}
+use Rattle.b1_shell.specs.Forms.{most_check}
+
+-- a script with its report is too long; or the script has a fault; or the report behind the script, counted from the start of the input
+pub data IsCheckFault (input : List ℕ) (at : ℕ) (cause : Cause) : Type 0 where
+  long : most_check < length input → at ≡ most_check → cause ≡ Long → IsCheckFault input at cause
+  script : length input ≤ most_check → bad_script input ≡ Some (at, cause) → IsCheckFault input at cause
+  report : length input ≤ most_check → (s : Script) (end inner : ℕ) → IsScript input s end → reports.TellsFault (length s.opening.peers) (drop end input) (unread.Bad inner cause) → at ≡ end + inner → IsCheckFault input at cause
+
+-- the first fault of the input
+abbrev pub IsFault : Form → List ℕ → ℕ → Cause → Type 0
+IsFault Play input at cause = bad input ≡ Some (at, cause)
+IsFault Asm input at cause = texts.IsFault input (unread.Bad at cause)
+IsFault Dump input at cause = bad input ≡ Some (at, cause)
+IsFault Check input at cause = IsCheckFault input at cause
