@@ -62,24 +62,35 @@ fn to_itself(alloc: Global) -> Result<Record, AllocError>
     })
 }
 
-#[test]
-fn a_message_to_oneself(rt: HostRuntime) -> Result<(), Fail> {
-    let alloc = rt.alloc();
-    let opening = alone(alloc)?;
-    let record = to_itself(alloc)?;
-    let facts = Facts::gather(alloc, &opening, &record)?;
-    assert_eq!(rt; facts.order().len(), 1);
+/// The handles of a second message that carries its node and nothing.
+fn handles_at(alloc: Global, opening: &Opening, record: &Record) -> Result<Nums, AllocError>
+    requires opening { IsOpening opening.now }
+    requires peers { length record.now.peers ≡ length opening.now.peers }
+    requires one { length record.now.peers ≡ 1 }
+    requires call { length (calls_of record.now 0) ≡ 1 }
+    requires rises { Rises record.now }
+{
+    let facts = Facts::gather(alloc, opening, record)?;
+    let walk = Walk::start(alloc, &facts, 0)?.pass(&facts)?;
     let key = Key {
-        stamp: 2,
+        stamp: 4,
         origin: 0,
         index: 0,
     };
-    let walk = Walk::start(alloc, &facts, 0)?;
-    let walk = walk.pass(&facts)?;
-    assert_eq!(rt; walk.call(), 1);
-    assert!(rt; walk.is_message(&facts, &key));
-    let message = facts.message(2, 0).expect(&rt, "the message is there");
-    let handles = walk.arrived(alloc, &facts, &key, message.carried())?;
-    assert_eq!(rt; handles.as_slice(), [4].as_slice());
+    let node = NodeId {
+        owner: 0,
+        serial: 0,
+        epoch: 0,
+    };
+    walk.arrived(alloc, &facts, &key, &[Some(node), None])
+}
+
+#[test]
+fn own_handle_and_none(rt: HostRuntime) -> Result<(), Fail> {
+    let alloc = rt.alloc();
+    let opening = alone(alloc)?;
+    let record = to_itself(alloc)?;
+    let handles = handles_at(alloc, &opening, &record)?;
+    assert_eq!(rt; handles.as_slice(), [4, u64::MAX].as_slice());
     Ok(())
 }

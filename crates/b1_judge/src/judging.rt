@@ -21,7 +21,8 @@ use std::alloc::{AllocError, Global};
 /// broken, in the order of the clauses, and its first call, by peer and then by call. The record may be any, also a
 /// forged one.
 ///
-/// It takes time at most quadratic in the number of calls, and memory linear in the record. An error is want of memory.
+/// It takes time at most quadratic in the calls and the numbers in them, but for a logarithm, and memory linear in the
+/// record. An error is want of memory.
 pub fn judge(alloc: Global, script: &Script, rec: &Record) -> Result<Verdict, AllocError>
     requires opening { IsOpening script.now.opening }
     requires commands { length script.now.commands ≡ length script.now.opening.peers }
