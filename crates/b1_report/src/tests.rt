@@ -60,6 +60,8 @@ fn calls_are_read_and_printed_again(rt: HostRuntime) -> Result<(), Fail> {
         "query = info 0 4096 16 4096 16",
         "recv = refused EAGAIN:staged:0:1",
         "send 1 to 2 with - data - = refused EDQUOT:bytes:16:0:32:8 at 0",
+        "release invalid = refused EINVAL",
+        "slice invalid = refused ENXIO:invalid",
     ];
     for line in lines {
         let text = with_call(rt.alloc(), line)?;
