@@ -1,0 +1,31 @@
+-- How large nodes, given numbers, held handles and counts can be, by the wires and the calls.
+use Rattle.std.specs.Prelude.{◌≤◌, ◌*◌, ℕ, ◌+◌, Bool, true, false, if◌then◌else◌, length, Some, None, sum_by}
+use Rattle.b1_model.specs.declared.naming.Opening.{Opening}
+use Rattle.b1_model.specs.MachineParts.{PeerPart, DriverPart, HandleRecord, State, node_at}
+use Rattle.b1_model.specs.MachineTables.{count_of}
+use Rattle.b1_model.specs.MachineTook.{answer_of, driver_calls}
+use Rattle.b1_step.specs.Rights.{Has}
+use Rattle.b1_shape.specs.Words.{IsPeer, IsDriver}
+
+-- a command is open whose answer isn't fixed
+abbrev pub is_unanswered : DriverPart → Bool
+is_unanswered d = elim d.doing [ None ↦ false | Some doing ↦ elim (answer_of doing.command doing.phase) [ None ↦ true | Some got ↦ false ] ]
+
+-- a driver's calls, with the open one
+abbrev pub calls_begun : DriverPart → ℕ
+calls_begun d = length (driver_calls d) + (if is_unanswered d then 1 else 0)
+
+-- 64 for each call of a driver, and one for each wire
+abbrev pub call_bound : Opening → DriverPart → ℕ
+call_bound o d = length o.wires + 64 * calls_begun d
+
+-- 4,096 for each call of all drivers, and one for each wire
+abbrev pub all_calls_bound : Opening → State → ℕ
+all_calls_bound o s = length o.wires + sum_by (λ d. 4096 * calls_begun d) s.drivers
+
+-- nodes made, numbers given and handles held at a peer, and the counts of all nodes
+pub record BoundsRight (o : Opening) (s : State) : Type 0 where
+  pub nodes : (p : ℕ) (d : DriverPart) (x : PeerPart) → IsDriver s p d → IsPeer s p x → length x.nodes ≤ call_bound o d
+  pub given : (p : ℕ) (d : DriverPart) (x : PeerPart) → IsDriver s p d → IsPeer s p x → x.given ≤ call_bound o d
+  pub held : (p : ℕ) (d : DriverPart) (x : PeerPart) (h : HandleRecord) → IsDriver s p d → IsPeer s p x → Has x.handles h → h.held ≤ call_bound o d
+  pub counts : (q : ℕ) (x : PeerPart) (serial holder : ℕ) → IsPeer s q x → count_of (node_at x serial) holder ≤ all_calls_bound o s

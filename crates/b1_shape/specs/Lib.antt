@@ -1,0 +1,9 @@
+pub mod Words
+pub mod Sends
+pub mod Stages
+pub mod Stamps
+pub mod Notices
+pub mod References
+pub mod Bounds
+pub mod Clocks
+pub mod Sound
