@@ -8,7 +8,7 @@ use Rattle.b1_model.specs.declared.entries.Entry.{Entry}
 use Rattle.b1_model.specs.declared.events.OwedDrop.{OwedDrop}
 use Rattle.b1_model.specs.declared.events.Phase.{Phase}
 use Rattle.b1_model.specs.declared.events.Phase.TheVariants.{Committing, Dropping, Reaping}
-use Rattle.b1_model.specs.MachineParts.{PeerPart, DriverPart, HandleRecord, State, same_ref, is_staged, is_data, carried, slots_of, node_at, record_or_none}
+use Rattle.b1_model.specs.MachineParts.{PeerPart, DriverPart, NodePart, HandleRecord, State, same_ref, is_staged, is_data, carried, slots_of, node_at, record_or_none}
 use Rattle.b1_model.specs.MachineTables.{count_of}
 use Rattle.b1_model.specs.MachineCounts.{fresh}
 use Rattle.b1_step.specs.Rights.{Has}
@@ -59,8 +59,9 @@ may_owe Dropping = true
 may_owe (Reaping answer) = true
 may_owe phase = false
 
--- each owner's count is the fresh count; what is owed or to be given up is of made nodes of other peers, each at least once; drops are owed only in phases that may owe
+-- each node has a count for each peer; each owner's count is the fresh count; what is owed or to be given up is of made nodes of other peers, each at least once; drops are owed only in phases that may owe
 pub record ReferencesRight (s : State) : Type 0 where
+  pub widths : (q : ℕ) (x : PeerPart) (n : NodePart) → IsPeer s q x → Has x.nodes n → length n.counts ≡ length s.peers
   pub counts : (node : NodeRef) (q : ℕ) → count_in s node q ≡ fresh s node q
   pub owed : (p : ℕ) (d : DriverPart) (one : OwedDrop) → IsDriver s p d → Has d.owed one → IsDrop s one
   pub owing : (p : ℕ) (d : DriverPart) → IsDriver s p d → (d.owed ≡ []) ⊎ ((phase : Phase) × (phase_of d ≡ Some phase) × (may_owe phase ≡ true))
