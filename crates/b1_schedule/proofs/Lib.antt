@@ -1,0 +1,6 @@
+pub mod Places
+pub mod Backward
+pub mod Turns
+pub mod Bits
+pub mod Steps
+pub mod States

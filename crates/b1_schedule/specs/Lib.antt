@@ -1,0 +1,3 @@
+pub mod Shortage
+pub mod Schedule
+pub mod Agreement
