@@ -1,0 +1,4 @@
+pub mod Weights
+pub mod Kept
+pub mod Falls
+pub mod Others

@@ -1,0 +1,2 @@
+//! Why the loops of a play end: how much work an open command still has where no other driver steps.
+#![tactic(auto)]
