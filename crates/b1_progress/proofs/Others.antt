@@ -7,7 +7,7 @@ use Rattle.b1_model.specs.declared.parts.Visited.{Visited}
 use Rattle.b1_model.specs.declared.events.OwedDrop.{OwedDrop}
 use Rattle.b1_model.specs.declared.events.Destruction.{Destruction}
 use Rattle.b1_model.specs.declared.events.Phase.{Phase}
-use Rattle.b1_model.specs.declared.events.Phase.TheVariants.{SyncingNotices, CommittingOwn, CommittingNotices, Flushing, Reaping}
+use Rattle.b1_model.specs.declared.events.Phase.TheVariants.{Visiting, Dooming, SyncingNotices, CommittingOwn, CommittingNotices, Flushing, Reaping}
 use Rattle.b1_model.specs.MachineTables.{with_peer}
 use Rattle.b1_model.specs.MachineDriver.{Goes, Ends, visiting, with_visit, syncing_notices, committing_notices, is_flushing}
 use Rattle.b1_model.specs.MachineTook.{drops_of}
@@ -22,14 +22,14 @@ joined_length peer (q ∷ rest) = let ih = joined_length peer rest in grind (ari
 module _ (command : Command) (told : Bool) (late later kept after : ℕ) where
   -- a visit: the peers that are left, or the stamp
   pub visit_goes : (d : Destruction) (peer : ℕ) (left : List ℕ) (got : Visited) → later ≤ late → after ≤ kept
-      → Falls (Goes (visiting (with_visit d peer got) left)) [] told later after (doom_weight d + 1 + 4 * (length left + 1) + 6 * late + 0 + kept)
+      → Falls (Goes (visiting (with_visit d peer got) left)) [] told later after (doom_weight d + 1 + 4 * length (peer ∷ left) + 6 * late + 0 + kept)
   visit_goes d peer left got fewer below = by_left left
     where
       staged : (b : Bool) → length (cond b (with_peer peer d.staged) d.staged) ≤ length d.staged + 1
       staged true = joined_length peer d.staged
       staged false = omega arith
 
-      by_left : (rest : List ℕ) → Falls (Goes (visiting (with_visit d peer got) rest)) [] told later after (doom_weight d + 1 + 4 * (length rest + 1) + 6 * late + 0 + kept)
+      by_left : (rest : List ℕ) → Falls (Goes (visiting (with_visit d peer got) rest)) [] told later after (doom_weight d + 1 + 4 * length (peer ∷ rest) + 6 * late + 0 + kept)
       by_left [] goes = omega (arith, below, fewer, staged got.staged)
       by_left (q ∷ rest) goes = omega (arith, below, fewer, staged got.staged)
 
@@ -71,8 +71,13 @@ module _ (command : Command) (told : Bool) (late later kept after : ℕ) where
 
   -- a drop: one fewer is owed
   pub drop_goes : (phase : Phase) (one : OwedDrop) (rest : List OwedDrop) → later ≤ late → after ≤ kept + 1
-      → Falls (Goes phase) rest told late after (phase_weight late phase + 2 * length (one ∷ rest) + kept)
-  drop_goes phase one rest fewer below goes = omega (arith, below)
+      → Falls (Goes phase) rest told later after (phase_weight late phase + 2 * length (one ∷ rest) + kept)
+  drop_goes phase one rest fewer below goes = omega (arith, below, fewer_left phase fewer)
+    where
+      fewer_left : (to : Phase) → later ≤ late → phase_weight later to ≤ phase_weight late to
+      fewer_left (Visiting d left) fewer = omega (arith, fewer)
+      fewer_left (Dooming d) fewer = omega (arith, fewer)
+      fewer_left to fewer = omega arith
 
 -- drops are as many as the references that they are made of
 pub drops_length : (holder clock : ℕ) (refs : List (NodeRef × ℕ)) → length (drops_of holder clock refs) ≡ length refs

@@ -1,0 +1,10 @@
+pub mod Events
+pub mod Places
+pub mod Begins
+pub mod Sendings
+pub mod Shapes
+pub mod SendsKept
+pub mod Waits
+pub mod Once
+pub mod StagesKept
+pub mod SlotsKept

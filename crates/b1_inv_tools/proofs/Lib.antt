@@ -1,0 +1,5 @@
+pub mod Leaves
+pub mod Received
+pub mod Grows
+pub mod Comes
+pub mod Openings
