@@ -3,6 +3,7 @@ pub mod Sends
 pub mod Stages
 pub mod Stamps
 pub mod Notices
+pub mod Numbers
 pub mod References
 pub mod Bounds
 pub mod Clocks

@@ -8,6 +8,7 @@ use Rattle.b1_shape.specs.Sends.{SendsRight}
 use Rattle.b1_shape.specs.Stages.{StagesRight}
 use Rattle.b1_shape.specs.Stamps.{StampsRight}
 use Rattle.b1_shape.specs.Notices.{NoticesRight}
+use Rattle.b1_shape.specs.Numbers.{NumbersRight}
 use Rattle.b1_shape.specs.References.{FlightsRight, SlotsRight, ReferencesRight}
 use Rattle.b1_shape.specs.Bounds.{BoundsRight}
 use Rattle.b1_shape.specs.Clocks.{ClocksRight}
@@ -22,6 +23,7 @@ pub record IsSound (o : Opening) (s : State) : Type 0 where
   pub slots : SlotsRight s
   pub stamps : StampsRight s
   pub notices : NoticesRight s
+  pub numbers : NumbersRight s
   pub flights : FlightsRight s
   pub references : ReferencesRight s
   pub bounds : BoundsRight o s
