@@ -1,0 +1,4 @@
+pub mod Records
+pub mod Left
+pub mod Given
+pub mod Visited

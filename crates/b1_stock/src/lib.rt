@@ -1,0 +1,13 @@
+//! Buffers that were made beforehand, and a peer's list of references to be given up.
+#![tactic(auto)]
+
+mod buffers;
+mod dead;
+mod stock;
+
+pub use buffers::put_last;
+pub use dead::DeadList;
+pub use stock::Stock;
+
+#[cfg(test)]
+mod tests;
