@@ -36,6 +36,7 @@ pub record Opened (d : DriverPart) (command : Option Command) (e : DriverPart) (
   pub shut : e.shut ≡ d.shut
   pub owed : e.owed ≡ d.owed
   pub told : e.told ≡ d.told
+  pub attempted : e.attempted ≡ d.attempted
   pub is_open : e.doing ≡ Some doing
   pub from : (d.doing ≡ Some doing) ⊎ ((d.doing ≡ None) × (command ≡ Some doing.command) × (doing.phase ≡ Starting))
 
@@ -43,10 +44,10 @@ opened_by : (d e : DriverPart) (doing : Option Doing) (command : Option Command)
 opened_by d e None None is_doing is = absurd (cc is)
 opened_by d e None (Some c) is_doing is =
     let same : record d { doing = Some (record { command = c; phase = Starting }) } ≡ e = some_same _ e is in
-    (record { command = c; phase = Starting }, subst (λ z. Opened d (Some c) z (record { command = c; phase = Starting })) same (record { me = refl; calls = refl; shut = refl; owed = refl; told = refl; is_open = refl; from = inr (is_doing, refl, refl) }))
+    (record { command = c; phase = Starting }, subst (λ z. Opened d (Some c) z (record { command = c; phase = Starting })) same (record { me = refl; calls = refl; shut = refl; owed = refl; told = refl; attempted = refl; is_open = refl; from = inr (is_doing, refl, refl) }))
 opened_by d e (Some doing) None is_doing is =
     let same : d ≡ e = some_same d e is in
-    (doing, subst (λ z. Opened d None z doing) same (record { me = refl; calls = refl; shut = refl; owed = refl; told = refl; is_open = is_doing; from = inl is_doing }))
+    (doing, subst (λ z. Opened d None z doing) same (record { me = refl; calls = refl; shut = refl; owed = refl; told = refl; attempted = refl; is_open = is_doing; from = inl is_doing }))
 opened_by d e (Some doing) (Some c) is_doing is = absurd (cc is)
 
 -- what a step did: by the driver's part with its command, the event that was next, and that event's answer

@@ -1,0 +1,17 @@
+pub mod Turns
+pub mod Calm
+pub mod Sets
+pub mod Nodes
+pub mod Own
+pub mod Serials
+pub mod Dooms
+pub mod OwnCount
+pub mod OwnLaw
+pub mod Awaits
+pub mod Brings
+pub mod NoticesLaw
+pub mod Begins
+pub mod StampTurns
+pub mod AheadTurns
+pub mod Stamped
+pub mod StampsLaw
