@@ -1,1 +1,4 @@
 pub mod Told
+pub mod Attempts
+pub mod Knows
+pub mod Holds
