@@ -80,6 +80,17 @@ destroy_plain : (r : Option Reason) (doomed : List ℕ) (x : PeerPart) → IsPla
 destroy_plain (Some r) doomed x = tt
 destroy_plain None doomed x = tt
 
+module _ (e : DriverPart) (doing : Doing) where
+  -- how many entries the attempt removed
+  abbrev pub found_by : Bool → Result Receipt Front → ℕ → Option (Front × ℕ)
+  found_by b front removed = if b then elim front [ Ok receipt ↦ None | Err f ↦ Some (f, removed) ] else None
+
+  abbrev pub with_found : Option (Front × ℕ) → DriverPart
+  with_found found = record e { attempted = elim found [ None ↦ e.attempted | Some one ↦ Some one ] }
+
+  pub attempt_removed : (got : Received) (dead : Bool) (f : Front) → is_await doing.command ≡ true → got.front ≡ Err f → removed_by (with_facts e doing (out.Recv got dead)) ≡ got.removed
+  attempt_removed got dead f await is = ap (λ b. removed_by (with_found (found_by b got.front got.removed))) await ∙ ap (λ front. removed_by (with_found (found_by true front got.removed))) is
+
 module _ (o : Opening) (memory : Bool) (e : DriverPart) (doing : Doing) (x before after : PeerPart)
     (own : (action : Action) → next_action e ≡ action → peer_of e.me action ≡ e.me → (after ≡ (happens o memory e doing action x).1) × (before ≡ x))
     (other : (action : Action) → next_action e ≡ action → peer_of e.me action ≢ e.me → after ≡ before) where
@@ -109,16 +120,6 @@ module _ (o : Opening) (memory : Bool) (e : DriverPart) (doing : Doing) (x befor
   by_turn : (outcome : Outcome) (t : Turn) → turn e.me doing.command doing.phase outcome ≡ t → KnowsBy outcome t → KnowsBy outcome (turn e.me doing.command doing.phase outcome)
   by_turn outcome t is known = subst (KnowsBy outcome) (sym is) known
 
-  -- how many entries the attempt removed
-  abbrev found_by : Bool → Result Receipt Front → ℕ → Option (Front × ℕ)
-  found_by b front removed = if b then elim front [ Ok receipt ↦ None | Err f ↦ Some (f, removed) ] else None
-
-  abbrev with_found : Option (Front × ℕ) → DriverPart
-  with_found found = record e { attempted = elim found [ None ↦ e.attempted | Some one ↦ Some one ] }
-
-  attempt_removed : (got : Received) (dead : Bool) (f : Front) → is_await doing.command ≡ true → got.front ≡ Err f → removed_by (with_facts e doing (out.Recv got dead)) ≡ got.removed
-  attempt_removed got dead f await is = ap (λ b. removed_by (with_found (found_by b got.front got.removed))) await ∙ ap (λ front. removed_by (with_found (found_by true front got.removed))) is
-
   recv_knows : next_action e ≡ act.Recv → doing.phase ≡ Starting → before.dead ≡ [] → e.owed ≡ [] → Knows act.Recv
   recv_knows is starts none owes_none =
       by_turn outcome (Goes (Reaping (recv_answer (received x)))) (ap (λ phase. turn e.me doing.command phase outcome) starts)
@@ -137,7 +138,7 @@ module _ (o : Opening) (memory : Bool) (e : DriverPart) (doing : Doing) (x befor
           never true is = cc is
           never false is = cc is
       by_front (Err f) same waits told =
-          omega (arith, attempt_removed (received x) (has_dead (received_part x)) f (waits_await doing.command (refused_at (reason.Again f) None) waits) (sym same),
+          omega (arith, attempt_removed e doing (received x) (has_dead (received_part x)) f (waits_await doing.command (refused_at (reason.Again f) None) waits) (sym same),
             removed_some x f (sym same) (ap (λ z. z.dead) (sym mine.1) ∙ none) told)
 
       removed : is_waiting doing.command (recv_answer (received x)) ≡ true → (has_dead (received_part x) ≡ true) ⊎ (e.owed ≢ []) → 0 < removed_by (with_facts e doing (out.Recv (received x) (has_dead (received_part x))))

@@ -2,3 +2,5 @@ pub mod Told
 pub mod Attempts
 pub mod Knows
 pub mod Holds
+pub mod Waits
+pub mod Waited
