@@ -44,11 +44,11 @@ open_same d x y None same told = same ∙ told
 open_same d x y (Some doing) same told = phase_same d x y doing.command doing.phase same told
 
 -- the same by what the driver is told, and by its last attempt
-phase_told : (d e : DriverPart) (x : PeerPart) (command : Command) (phase : Phase) → e.told ≡ d.told → e.attempted ≡ d.attempted → PhaseTold d x command phase → PhaseTold e x command phase
+pub phase_told : (d e : DriverPart) (x : PeerPart) (command : Command) (phase : Phase) → e.told ≡ d.told → e.attempted ≡ d.attempted → PhaseTold d x command phase → PhaseTold e x command phase
 phase_told d e x command (Reaping got) told attempted held = (told ∙ held.0, λ waits. omega (arith, held.1 waits, ap {B = ℕ} (λ found. elim found [ None ↦ 0 | Some one ↦ one.1 ]) attempted))
 phase_told d e x command phase told attempted held = held
 
-same_part : {X : Type 0} (xs : List X) (i : ℕ) (a b : X) → slice_get xs i ≡ Some a → slice_get xs i ≡ Some b → a ≡ b
+pub same_part : {X : Type 0} (xs : List X) (i : ℕ) (a b : X) → slice_get xs i ≡ Some a → slice_get xs i ≡ Some b → a ≡ b
 same_part xs i a b first second = some_is (sym first ∙ second)
   where
     some_is : {X : Type 0} {a b : X} → Some a ≡ Some b → a ≡ b

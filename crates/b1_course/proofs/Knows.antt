@@ -64,7 +64,7 @@ dead_same act.Reap x y is change = absurd (cc is)
 dead_same act.Flush x y is change = absurd (cc is)
 
 -- an AWAIT alone waits, at a front
-waits_await : (command : Command) (got : Answer) → is_waiting command got ≡ true → is_await command ≡ true
+pub waits_await : (command : Command) (got : Answer) → is_waiting command got ≡ true → is_await command ≡ true
 waits_await command got is = by_flag (is_await command) is
   where
     by_flag : (b : Bool) → (b && elim got [ answer.Refused refused ↦ is_again refused.reason | other ↦ false ]) ≡ true → b ≡ true

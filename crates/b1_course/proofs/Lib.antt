@@ -4,3 +4,4 @@ pub mod Knows
 pub mod Holds
 pub mod Waits
 pub mod Waited
+pub mod Unmoved
