@@ -106,7 +106,7 @@ module _ {o : Opening} {s : State} {p : ℕ} {command : Option Command} {t : Sta
         ]
 
   -- a peer that is there afterwards was there
-  was_peer : (q : ℕ) (y : PeerPart) → IsPeer t q y → (x : PeerPart) × IsPeer s q x
+  pub was_peer : (q : ℕ) (y : PeerPart) → IsPeer t q y → (x : PeerPart) × IsPeer s q x
   was_peer q y is = elim (peer_cases step q y is) [
       | inl here ↦ (step.peer, ap (slice_get s.peers) here.0 ∙ step.is_peer)
       | inr elsewhere ↦ (y, elsewhere.1)

@@ -5,3 +5,4 @@ pub mod Holds
 pub mod Waits
 pub mod Waited
 pub mod Unmoved
+pub mod Rounds

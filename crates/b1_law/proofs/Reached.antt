@@ -1,5 +1,5 @@
 -- What holds of every reached state: of the opening, and kept by each step.
-use Rattle.std.proofs.Common.{◌≡◌, ◌≢◌, ◌×◌, ◌⊎◌, refl, sym, ap, ◌∙◌, inl, inr, subst, ℕ, List, [], ◌∷◌, slice_get, Option, Some}
+use Rattle.std.proofs.Common.{◌≡◌, ◌≢◌, ◌⊎◌, refl, sym, inl, inr, subst, ℕ, List, [], ◌∷◌, slice_get, Option, Some}
 use Rattle.b1_model.specs.declared.naming.Opening.{Opening}
 use Rattle.b1_model.specs.declared.commands.Command.{Command}
 use Rattle.b1_model.specs.Opening.{IsOpening}
@@ -17,6 +17,13 @@ use Rattle.b1_inv_sends.proofs.SlotsKept.{opening_slots, slots_kept}
 use Rattle.b1_inv_notices.proofs.Begins.{notices_begin, stamps_begin}
 use Rattle.b1_inv_notices.proofs.NoticesLaw.{notices_kept}
 use Rattle.b1_inv_notices.proofs.StampsLaw.{stamps_kept}
+use Rattle.b1_inv_clocks.proofs.ClocksBegin.{clocks_begin}
+use Rattle.b1_inv_clocks.proofs.ClocksLaw.{clocks_kept}
+use Rattle.b1_inv_refs.proofs.Flying.{numbers_kept, flights_kept}
+use Rattle.b1_inv_refs.proofs.Laying.{numbers_opening, flights_opening, references_opening}
+use Rattle.b1_inv_refs.proofs.Referring.{references_kept}
+use Rattle.b1_inv_bounds.proofs.Bounded.{bounds_kept}
+use Rattle.b1_inv_bounds.proofs.Opened.{bounds_opening}
 
 module _ {o : Opening} {s : State} {p : ℕ} {command : Option Command} {t : State} (up : HandlesRise s) (step : Step o s p command t) where
   by_peer : (q : ℕ) (y : PeerPart) → ((q ≡ step.at) × (y ≡ step.new_peer)) ⊎ ((q ≢ step.at) × (slice_get s.peers q ≡ Some y)) → Rising y.handles
@@ -36,11 +43,11 @@ opening_sound o valid = record {
   slots = opening_slots o;
   stamps = stamps_begin o;
   notices = notices_begin o;
-  numbers = ?;
-  flights = ?;
-  references = ?;
-  bounds = ?;
-  clocks = ?;
+  numbers = numbers_opening o valid;
+  flights = flights_opening o valid;
+  references = references_opening o valid;
+  bounds = bounds_opening o;
+  clocks = clocks_begin o valid;
 }
 
 pub step_sound : (o : Opening) (s : State) (p : ℕ) (command : Option Command) (t : State) → IsSound o s → Step o s p command t → IsSound o t
@@ -53,11 +60,11 @@ step_sound o s p command t sound step = record {
   slots = slots_kept sound step;
   stamps = stamps_kept sound step;
   notices = notices_kept sound step;
-  numbers = ?;
-  flights = ?;
-  references = ?;
-  bounds = ?;
-  clocks = ?;
+  numbers = numbers_kept sound step;
+  flights = flights_kept sound step;
+  references = references_kept sound step;
+  bounds = bounds_kept sound step;
+  clocks = clocks_kept sound step;
 }
 
 led_sound : (o : Opening) (steps : List Label) (s t : State) → IsSound o s → Leads o s steps t → IsSound o t

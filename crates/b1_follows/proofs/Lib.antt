@@ -1,0 +1,6 @@
+pub mod Phases
+pub mod Starts
+pub mod Calls
+pub mod Steps
+pub mod Plays
+pub mod Recorded
