@@ -10,6 +10,9 @@ use Rattle.b1_model.specs.MachineParts.{PeerPart, DriverPart, State}
 use Rattle.b1_model.specs.MachineStep.{Step}
 use Rattle.b1_model.specs.MachineOrder.{next_command}
 use Rattle.b1_model.specs.Script.{resolved, commands_of}
+use Rattle.b1_step.specs.Fixed.{AtMostOneMore}
+use Rattle.b1_step.proofs.Locality.{step_grows}
+use Rattle.b1_course.proofs.Waits.{length_more}
 use Rattle.b1_shape.specs.Words.{IsPeer, IsDriver}
 use Rattle.b1_shape.specs.Sound.{IsSound}
 use Rattle.b1_inv_tools.proofs.Leaves.{driver_cases, peer_cases, new_driver, new_peer, same_driver, same_peer}
@@ -28,6 +31,25 @@ resolved_await (cmd.Destroy numbers) calls is = absurd (cc is)
 resolved_await (cmd.SliceRelease offset) calls is = absurd (cc is)
 resolved_await (cmd.Send c) calls is = absurd (cc is)
 resolved_await cmd.Recv calls is = absurd (cc is)
+
+beginning_closed : (next : Option Command) (d : DriverPart) → d.doing ≡ None → beginning next d ≡ elim next [ None ↦ None | Some c ↦ Some (resolved c d.calls) ]
+beginning_closed next d is = ap {B = Option Command} (λ doing. elim doing [ Some one ↦ None | None ↦ elim next [ None ↦ None | Some c ↦ Some (resolved c d.calls) ] ]) is
+
+-- a round or a pass that gained nothing removed nothing
+none_gained : (gained : Bool) (removed : ℕ) → gains gained removed ≡ false → (gained ≡ false) × (removed ≡ 0)
+none_gained true removed is = absurd (cc is)
+none_gained false zero is = (refl, refl)
+none_gained false (suc n) is = absurd (by_some n is)
+  where
+    by_some : (m : ℕ) → nat_lt 0 (suc m) ≡ false → ⊥
+    by_some m is = grind (arith, is)
+
+-- past the end of a list there is nothing
+past_end : {X : Type 0} (xs : List X) (n m : ℕ) → slice_get xs n ≡ None → n ≤ m → slice_get xs m ≡ None
+past_end [] n m is few = refl
+past_end (x ∷ rest) zero m is few = absurd (cc is)
+past_end (x ∷ rest) (suc n) zero is few = absurd (omega (arith, few))
+past_end (x ∷ rest) (suc n) (suc m) is few = past_end rest n m is (omega (arith, few))
 
 module _ (lists : List (List Command)) {o : Opening} {s : State} {p : ℕ} {command : Option Command} {t : State} (sound : IsSound o s) (known : AllTold s) (step : Step o s p command t) where
   -- the own peer's part is there
@@ -76,3 +98,88 @@ module _ (lists : List (List Command)) {o : Opening} {s : State} {p : ℕ} {comm
 
     own_blocked : (x : PeerPart) → IsPeer t p x → IsBlocked x
     own_blocked x is = subst IsBlocked (same_part s.peers p step.peer x (ap (slice_get s.peers) (sym still.at) ∙ step.is_peer) (same_peers p x is)) still.blocked
+
+  -- how the step ended
+  abbrev how : Ending
+  how = ending step.driver step.new_driver
+
+  by_open : (P : Ending → Type 0) → ((doing : Doing) → step.new_driver.doing ≡ Some doing → P Open) → (step.new_driver.doing ≡ None → P Called) → (step.new_driver.doing ≡ None → length step.new_driver.calls ≤ length step.driver.calls → P (Waits (removed_by step.new_driver))) → P how
+  by_open P opens calls waits = by_doing step.new_driver.doing refl
+    where
+      by_length : (b : Bool) → b ≡ nat_lt (length step.driver.calls) (length step.new_driver.calls) → step.new_driver.doing ≡ None → P (cond b Called (Waits (removed_by step.new_driver)))
+      by_length true same rests = calls rests
+      by_length false same rests = waits rests (few (length step.driver.calls) (length step.new_driver.calls) (sym same))
+        where
+          few : (a b : ℕ) → nat_lt a b ≡ false → b ≤ a
+          few a b is = grind (arith, is)
+
+      by_doing : (open_part : Option Doing) → open_part ≡ step.new_driver.doing → P (elim open_part [ Some doing ↦ Open | None ↦ cond (nat_lt (length step.driver.calls) (length step.new_driver.calls)) Called (Waits (removed_by step.new_driver)) ])
+      by_doing (Some doing) same = opens doing (sym same)
+      by_doing None same = by_length (nat_lt (length step.driver.calls) (length step.new_driver.calls)) refl (sym same)
+
+  idle_to : (q : ℕ) → ((r : ℕ) → r < q → IsIdle s r) → (r : ℕ) → r < q → r ≢ p → IsIdle t r
+  idle_to q idle r below apart = others_idle r apart (idle r below)
+
+  -- ---- a step of a round
+
+  module _ (begins : command ≡ beginning (next_command lists p step.driver) step.driver) where
+    -- the command of an attempt that waits is the AWAIT of the list
+    next_await : Unmoved step → next_command lists p step.new_driver ≡ Some cmd.Await
+    next_await still = ap (λ calls. slice_get (commands_of lists p) (length calls)) still.calls ∙ by_next (next_command lists p step.driver) refl (sym begins ∙ still.await)
+      where
+        by_next : (next : Option Command) → next ≡ next_command lists p step.driver → beginning next step.driver ≡ Some cmd.Await → next_command lists p step.driver ≡ Some cmd.Await
+        by_next None same is = absurd (cc (sym (beginning_closed None step.driver still.closed) ∙ is))
+        by_next (Some c) same is = sym same ∙ ap Some (resolved_await c step.driver.calls (some_is (sym (beginning_closed (Some c) step.driver still.closed) ∙ is)))
+          where
+            some_is : {a b : Command} → Some a ≡ Some b → a ≡ b
+            some_is is = cc is
+
+    own_waiting : Unmoved step → (d : DriverPart) (x : PeerPart) → IsDriver t p d → IsPeer t p x → IsWaiting lists p d x
+    own_waiting still d x is_d is_x =
+        let same = same_part t.drivers p step.new_driver d (new_driver step) is_d in
+        inr (subst (λ e. next_command lists p e ≡ Some cmd.Await) same (next_await still), subst (λ e. e.shut ≡ false) same still.shut, own_blocked still x is_x)
+
+    round_waiting : (gained : Bool) → HoldsAt lists s (Round p gained) → step.new_driver.doing ≡ None → length step.new_driver.calls ≤ length step.driver.calls → gains gained (removed_by step.new_driver) ≡ false → AllBefore t (p + 1) (IsWaiting lists)
+    round_waiting gained holds rests few none r d x below is_d is_x =
+        let nothing = none_gained gained (removed_by step.new_driver) none in
+        let still = unmoved sound known step own_peer.0 own_peer.1 rests few nothing.1 in
+        elim (cases_eq r p) [
+          | inl here ↦ subst (λ q. IsDriver t q d → IsPeer t q x → IsWaiting lists q d x) (sym here) (own_waiting still d x) is_d is_x
+          | inr apart ↦ before_kept still p (IsWaiting lists) (omega arith) (holds.1 nothing.0 (idle_before still)) r d x (omega (arith, below, apart)) is_d is_x
+        ]
+
+    pub round_goes : (gained : Bool) → HoldsAt lists s (Round p gained) → HoldsAt lists t (round_after p gained how)
+    round_goes gained holds = by_open (λ en. HoldsAt lists t (round_after p gained en))
+        (λ doing is. ((λ r below. idle_to p holds.0 r below (λ same. omega (arith, below, same))), λ none idle. absurd (is_still_open doing is idle)))
+        (λ rests. ((λ r below. idle_to p holds.0 r below (λ same. omega (arith, below, same))), λ none idle. absurd (cc none)))
+        (λ rests few. ((λ r below. elim (cases_eq r p) [ inl here ↦ subst (IsIdle t) (sym here) (own_rests rests) | inr apart ↦ others_idle r apart (holds.0 r (omega (arith, below, apart))) ]), λ none idle. round_waiting gained holds rests few none))
+
+  -- ---- a step of the drain
+
+  more_calls : length step.driver.calls ≤ length step.new_driver.calls
+  more_calls = by_more (step_grows step).calls
+    where
+      by_more : AtMostOneMore step.driver.calls step.new_driver.calls → length step.driver.calls ≤ length step.new_driver.calls
+      by_more (inl same) = omega (arith, ap length same)
+      by_more (inr (c, more)) = omega (arith, ap length more, length_more step.driver.calls c)
+
+  ended_kept : AllEnded lists s → AllEnded lists t
+  ended_kept ended r d is_d = elim (driver_cases step r d is_d) [
+      | inl here ↦ subst (λ e. next_command lists r e ≡ None) (sym here.1) (past_end (commands_of lists r) (length step.driver.calls) (length step.new_driver.calls) (ended r step.driver (ap (slice_get s.drivers) here.0 ∙ step.is_driver)) more_calls)
+      | inr elsewhere ↦ ended r d elsewhere.1
+    ]
+
+  drain_emptied : (gained : Bool) → HoldsAt lists s (Draining p gained) → step.new_driver.doing ≡ None → length step.new_driver.calls ≤ length step.driver.calls → gains gained (removed_by step.new_driver) ≡ false → AllBefore t (p + 1) (λ r. IsEmptied)
+  drain_emptied gained holds rests few none r d x below is_d is_x =
+      let nothing = none_gained gained (removed_by step.new_driver) none in
+      let still = unmoved sound known step own_peer.0 own_peer.1 rests few nothing.1 in
+      elim (cases_eq r p) [
+        | inl here ↦ inr (own_blocked still x (ap (slice_get t.peers) (sym here) ∙ is_x))
+        | inr apart ↦ before_kept still p (λ q. IsEmptied) (omega arith) (holds.2 nothing.0 (idle_before still)) r d x (omega (arith, below, apart)) is_d is_x
+      ]
+
+  pub drain_goes : (gained : Bool) → HoldsAt lists s (Draining p gained) → HoldsAt lists t (drain_after p gained how)
+  drain_goes gained holds = by_open (λ en. HoldsAt lists t (drain_after p gained en))
+      (λ doing is. (ended_kept holds.0, (λ r apart. others_idle r apart (holds.1 r apart)), λ none idle. absurd (is_still_open doing is idle)))
+      (λ rests. (ended_kept holds.0, (λ r apart. others_idle r apart (holds.1 r apart)), λ none idle. absurd (cc none)))
+      (λ rests few. (ended_kept holds.0, (λ r apart. elim (cases_eq r p) [ inl here ↦ subst (IsIdle t) (sym here) (own_rests rests) | inr away ↦ others_idle r away (holds.1 r away) ]), λ none idle. drain_emptied gained holds rests few none))

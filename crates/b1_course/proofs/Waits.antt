@@ -26,7 +26,7 @@ use Rattle.b1_shape.specs.Notices.{IsDestroying, DestructionShape}
 
 -- ---- an ended command without a call
 
-length_more : (calls : List Call) (c : Call) → length (calls ++ c ∷ []) ≡ length calls + 1
+pub length_more : (calls : List Call) (c : Call) → length (calls ++ c ∷ []) ≡ length calls + 1
 length_more [] c = refl
 length_more (x ∷ rest) c = omega (arith, length_more rest c)
 
