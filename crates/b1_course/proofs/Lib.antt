@@ -6,3 +6,4 @@ pub mod Waits
 pub mod Waited
 pub mod Unmoved
 pub mod Rounds
+pub mod Moves

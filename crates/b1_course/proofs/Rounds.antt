@@ -7,6 +7,13 @@ use Rattle.b1_model.specs.declared.commands.Command.TheVariants as cmd
 use Rattle.b1_model.specs.declared.records.Call.{Call}
 use Rattle.b1_model.specs.declared.events.Doing.{Doing}
 use Rattle.b1_model.specs.MachineParts.{PeerPart, DriverPart, State}
+use Rattle.std.specs.Prelude.{⊤}
+use Rattle.b1_model.specs.declared.answers.Answer.{Answer}
+use Rattle.b1_model.specs.declared.events.Outcome.{Outcome}
+use Rattle.b1_model.specs.declared.events.Outcome.TheVariants as out
+use Rattle.b1_model.specs.MachineDriver.{Turn, Goes, Ends, turn}
+use Rattle.b1_model.specs.MachineTook.{is_await, is_disconnect, shut_after, answer_of, is_done, goes_by, turned, with_facts}
+use Rattle.b1_model.specs.MachineEvents.{happens}
 use Rattle.b1_model.specs.MachineStep.{Step}
 use Rattle.b1_model.specs.MachineOrder.{next_command}
 use Rattle.b1_model.specs.Script.{resolved, commands_of}
@@ -15,9 +22,9 @@ use Rattle.b1_step.proofs.Locality.{step_grows}
 use Rattle.b1_course.proofs.Waits.{length_more}
 use Rattle.b1_shape.specs.Words.{IsPeer, IsDriver}
 use Rattle.b1_shape.specs.Sound.{IsSound}
-use Rattle.b1_inv_tools.proofs.Leaves.{driver_cases, peer_cases, new_driver, new_peer, same_driver, same_peer}
+use Rattle.b1_inv_tools.proofs.Leaves.{Did, step_did, turned_open, driver_cases, peer_cases, new_driver, new_peer, same_driver, same_peer}
 use Rattle.b1_schedule.specs.Schedule.{beginning, Ending, Open, Called, Waits, ending, removed_by, gains, Round, Draining, round_after, drain_after}
-use Rattle.b1_course.specs.Course.{AllTold, IsBlocked, IsIdle, IsWaiting, IsEmptied, AllBefore, AllEnded, HoldsAt}
+use Rattle.b1_course.specs.Course.{TryingBy, IsTrying, AllTold, IsBlocked, IsIdle, IsWaiting, IsEmptied, AllBefore, AllEnded, HoldsAt}
 use Rattle.b1_course.proofs.Holds.{same_part, was_peer}
 use Rattle.b1_course.proofs.Unmoved.{Unmoved, unmoved}
 
@@ -50,6 +57,35 @@ past_end [] n m is few = refl
 past_end (x ∷ rest) zero m is few = absurd (cc is)
 past_end (x ∷ rest) (suc n) zero is few = absurd (omega (arith, few))
 past_end (x ∷ rest) (suc n) (suc m) is few = past_end rest n m is (omega (arith, few))
+
+-- the shut flag after a turn, and after an attempt's event
+turned_shut : (f : DriverPart) (command : Command) (t : Turn) → (turned f command t).shut ≡ f.shut
+turned_shut f command (Ends got) = refl
+turned_shut f command (Goes phase) = by_done (is_done f.owed f.told phase) (answer_of command phase)
+  where
+    by_done : (b : Bool) (got : Option Answer) → (goes_by b got f command phase).shut ≡ f.shut
+    by_done false got = refl
+    by_done true None = refl
+    by_done true (Some got) = refl
+
+attempt_shut : (command : Command) (shut : Bool) (outcome : Outcome) → is_await command ≡ true → shut_after command shut outcome ≡ shut
+attempt_shut command shut (out.Flush dead) await = by_command command await
+  where
+    or_false : (b : Bool) → (b || false) ≡ b
+    or_false true = refl
+    or_false false = refl
+
+    by_command : (c : Command) → is_await c ≡ true → (shut || is_disconnect c) ≡ shut
+    by_command cmd.Await await = or_false shut
+    by_command cmd.Disconnect await = absurd (cc await)
+    by_command cmd.Query await = absurd (cc await)
+    by_command (cmd.Reset limits) await = absurd (cc await)
+    by_command (cmd.Release number) await = absurd (cc await)
+    by_command (cmd.Destroy numbers) await = absurd (cc await)
+    by_command (cmd.SliceRelease offset) await = absurd (cc await)
+    by_command (cmd.Send c) await = absurd (cc await)
+    by_command cmd.Recv await = absurd (cc await)
+attempt_shut command shut outcome await = refl
 
 module _ (lists : List (List Command)) {o : Opening} {s : State} {p : ℕ} {command : Option Command} {t : State} (sound : IsSound o s) (known : AllTold s) (step : Step o s p command t) where
   -- the own peer's part is there
@@ -175,11 +211,46 @@ module _ (lists : List (List Command)) {o : Opening} {s : State} {p : ℕ} {comm
       let still = unmoved sound known step own_peer.0 own_peer.1 rests few nothing.1 in
       elim (cases_eq r p) [
         | inl here ↦ inr (own_blocked still x (ap (slice_get t.peers) (sym here) ∙ is_x))
-        | inr apart ↦ before_kept still p (λ q. IsEmptied) (omega arith) (holds.2 nothing.0 (idle_before still)) r d x (omega (arith, below, apart)) is_d is_x
+        | inr apart ↦ before_kept still p (λ q. IsEmptied) (omega arith) (holds.3 nothing.0 (idle_before still)) r d x (omega (arith, below, apart)) is_d is_x
       ]
 
-  pub drain_goes : (gained : Bool) → HoldsAt lists s (Draining p gained) → HoldsAt lists t (drain_after p gained how)
-  drain_goes gained holds = by_open (λ en. HoldsAt lists t (drain_after p gained en))
-      (λ doing is. (ended_kept holds.0, (λ r apart. others_idle r apart (holds.1 r apart)), λ none idle. absurd (is_still_open doing is idle)))
-      (λ rests. (ended_kept holds.0, (λ r apart. others_idle r apart (holds.1 r apart)), λ none idle. absurd (cc none)))
-      (λ rests few. (ended_kept holds.0, (λ r apart. elim (cases_eq r p) [ inl here ↦ subst (IsIdle t) (sym here) (own_rests rests) | inr away ↦ others_idle r away (holds.1 r away) ]), λ none idle. drain_emptied gained holds rests few none))
+  -- a driver that rests is trying nothing
+  rests_trying : (d : DriverPart) → d.doing ≡ None → IsTrying d
+  rests_trying d rests = subst (TryingBy d.shut) (sym rests) tt
+
+  idle_trying : (q : ℕ) → IsIdle t q → (d : DriverPart) → IsDriver t q d → IsTrying d
+  idle_trying q idle d is = rests_trying d (idle d is)
+
+  module _ (begins : command ≡ beginning (Some cmd.Await) step.driver) (shut : step.driver.shut ≡ false) where
+    k : Did o step.local.memory step.driver command step.peer step.action step.at step.new_driver step.new_peer
+    k = step_did step
+
+    awaits : (gained : Bool) → HoldsAt lists s (Draining p gained) → is_await k.doing.command ≡ true
+    awaits gained holds = elim k.opened.from [
+        | inl is ↦ (subst (TryingBy step.driver.shut) is (holds.2 step.driver step.is_driver)).1
+        | inr starts ↦ ap is_await (some_is (sym starts.1 ∙ begins ∙ beginning_closed (Some cmd.Await) step.driver starts.0))
+      ]
+      where
+        some_is : {a b : Command} → Some a ≡ Some b → a ≡ b
+        some_is is = cc is
+
+    -- an attempt doesn't shut its driver
+    still_unshut : is_await k.doing.command ≡ true → step.new_driver.shut ≡ false
+    still_unshut await = ap (λ f. f.shut) k.driver ∙ turned_shut (with_facts k.e k.doing outcome) k.doing.command (turn k.e.me k.doing.command k.doing.phase outcome) ∙ attempt_shut k.doing.command k.e.shut outcome await ∙ k.opened.shut ∙ shut
+      where
+        outcome : Outcome
+        outcome = (happens o step.local.memory k.e k.doing step.action step.peer).0
+
+    open_trying : (gained : Bool) → HoldsAt lists s (Draining p gained) → (doing : Doing) → step.new_driver.doing ≡ Some doing → (d : DriverPart) → IsDriver t p d → IsTrying d
+    open_trying gained holds doing opened d is_d =
+        let await = awaits gained holds in
+        let same = turned_open (with_facts k.e k.doing (happens o step.local.memory k.e k.doing step.action step.peer).0) k.doing.command (turn k.e.me k.doing.command k.doing.phase (happens o step.local.memory k.e k.doing step.action step.peer).0) doing (ap (λ f. f.doing) (sym k.driver) ∙ opened) in
+        subst IsTrying (same_part t.drivers p step.new_driver d (new_driver step) is_d)
+        (subst (TryingBy step.new_driver.shut) (sym opened) (still_unshut await, ap is_await same.0 ∙ await))
+
+    pub drain_goes : (gained : Bool) → HoldsAt lists s (Draining p gained) → HoldsAt lists t (drain_after p gained how)
+    drain_goes gained holds = by_open (λ en. HoldsAt lists t (drain_after p gained en))
+        (λ doing is. (ended_kept holds.0, (λ r apart. others_idle r apart (holds.1 r apart)), open_trying gained holds doing is, λ none idle. absurd (is_still_open doing is idle)))
+        (λ rests. (ended_kept holds.0, (λ r apart. others_idle r apart (holds.1 r apart)), idle_trying p (own_rests rests), λ none idle. absurd (cc none)))
+        (λ rests few. (ended_kept holds.0, (λ r apart. elim (cases_eq r p) [ inl here ↦ subst (IsIdle t) (sym here) (own_rests rests) | inr away ↦ others_idle r away (holds.1 r away) ]),
+          idle_trying (p + 1) (others_idle (p + 1) (λ same. omega (arith, same)) (holds.1 (p + 1) (λ same. omega (arith, same)))), λ none idle. drain_emptied gained holds rests few none))
