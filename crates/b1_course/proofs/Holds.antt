@@ -1,5 +1,5 @@
 -- What drivers know of their dead lists, over a step of a state.
-use Rattle.std.proofs.Common.{◌≡◌, ◌≢◌, ◌⊎◌, refl, sym, ap, ◌∙◌, arith, inl, inr, subst, ℕ, ◌<◌, Bool, true, false, cond, List, [], ◌∷◌, slice_get, Option, Some, None}
+use Rattle.std.proofs.Common.{length, zero, suc, ◌+◌, ◌≡◌, ◌≢◌, ◌⊎◌, refl, sym, ap, ◌∙◌, arith, inl, inr, subst, ℕ, ◌<◌, Bool, true, false, cond, List, [], ◌∷◌, slice_get, Option, Some, None}
 use Rattle.std.proofs.lemmas.Bool.{cases_eq}
 use Rattle.b1_model.specs.declared.naming.Opening.{Opening}
 use Rattle.b1_model.specs.declared.commands.Command.{Command}
@@ -26,6 +26,18 @@ use Rattle.b1_inv_sends.proofs.SendsKept.{nothing_owed}
 use Rattle.b1_schedule.specs.Schedule.{removed_by}
 use Rattle.b1_course.specs.Course.{PhaseTold, OpenTold, AllTold}
 use Rattle.b1_course.proofs.Knows.{spares_dead, dead_same, next_knows}
+
+-- ---- what stands in a list
+
+pub peer_there : (xs : List PeerPart) (i : ℕ) → i < length xs → (x : PeerPart) × (slice_get xs i ≡ Some x)
+peer_there [] i below = absurd (omega (arith, below))
+peer_there (x ∷ rest) zero below = (x, refl)
+peer_there (x ∷ rest) (suc i) below = peer_there rest i (omega (arith, below))
+
+pub driver_there : (ds : List DriverPart) (i : ℕ) (d : DriverPart) → slice_get ds i ≡ Some d → i < length ds
+driver_there [] i d is = absurd (cc is)
+driver_there (e ∷ rest) zero d is = omega arith
+driver_there (e ∷ rest) (suc i) d is = omega (arith, driver_there rest i d is)
 
 -- an event at another peer leaves its dead list
 elsewhere_spares : (me : ℕ) (action : Action) → peer_of me action ≢ me → spares_dead action ≡ true

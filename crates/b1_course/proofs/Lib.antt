@@ -7,3 +7,4 @@ pub mod Waited
 pub mod Unmoved
 pub mod Rounds
 pub mod Moves
+pub mod Owners

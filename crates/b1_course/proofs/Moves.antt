@@ -26,27 +26,19 @@ use Rattle.b1_inv_sends.proofs.SendsKept.{nothing_owed}
 use Rattle.b1_law.proofs.Reached.{opening_sound, step_sound}
 use Rattle.b1_schedule.specs.Shortage.{Shortage, is_short}
 use Rattle.b1_schedule.specs.Schedule.{removed_by, beginning, with_step, ending, driver_after, Ending, Open, Called, Waits, Playing, Stage, Turning, Round, Draining, Finished, Stalled, round_after, drain_after, is_left, waiting_peers, turned_by, has_step, round_end, round_at, drain_at, moved, moves, start_of}
-use Rattle.b1_course.specs.Course.{TryingBy, IsTrying, AllTold, IsBlocked, IsIdle, IsWaiting, IsEmptied, AllBefore, AllEnded, HoldsAt}
-use Rattle.b1_course.proofs.Holds.{told_kept, opening_told, same_part}
+use Rattle.b1_course.specs.Course.{OwnersThere, TryingBy, IsTrying, AllTold, IsBlocked, IsIdle, IsWaiting, IsEmptied, AllBefore, AllEnded, HoldsAt}
+use Rattle.b1_course.proofs.Holds.{peer_there, driver_there, told_kept, opening_told, same_part}
 use Rattle.b1_course.proofs.Rounds.{round_goes, drain_goes}
+use Rattle.b1_course.proofs.Owners.{owners_kept, opening_owners}
 
 -- what is kept
 pub record Kept (lists : List (List Command)) (o : Opening) (at : Playing) : Type 0 where
   pub sound : IsSound o at.state
   pub known : AllTold at.state
+  pub owners : OwnersThere at.state
   pub holds : HoldsAt lists at.state at.stage
 
 -- ---- a command can begin
-
-peer_there : (xs : List PeerPart) (i : ℕ) → i < length xs → (x : PeerPart) × (slice_get xs i ≡ Some x)
-peer_there [] i below = absurd (omega (arith, below))
-peer_there (x ∷ rest) zero below = (x, refl)
-peer_there (x ∷ rest) (suc i) below = peer_there rest i (omega (arith, below))
-
-driver_there : (ds : List DriverPart) (i : ℕ) (d : DriverPart) → slice_get ds i ≡ Some d → i < length ds
-driver_there [] i d is = absurd (cc is)
-driver_there (e ∷ rest) zero d is = omega arith
-driver_there (e ∷ rest) (suc i) d is = omega (arith, driver_there rest i d is)
 
 first_own : (me : ℕ) (shut : Bool) (c : Command) → peer_of me (if shut then act.Local else first_action c) ≡ me
 first_own me true c = refl
@@ -88,7 +80,7 @@ driver_same s p d e is = ap (λ found. elim found [ None ↦ d | Some one ↦ on
 open_ending : (s : State) (p : ℕ) (d : DriverPart) (doing : Doing) → IsDriver s p d → d.doing ≡ Some doing → ending d (driver_after s p d) ≡ Open
 open_ending s p d doing is_d is = ap (ending d) (driver_same s p d d is_d) ∙ ap (λ one. elim one [ Some other ↦ Open | None ↦ if nat_lt (length d.calls) (length d.calls) then Called else Waits (removed_by d) ]) is
 
-module _ (lists : List (List Command)) (o : Opening) (m : Shortage) (s : State) (sound : IsSound o s) (known : AllTold s) (p : ℕ) (d : DriverPart) (is_d : IsDriver s p d) where
+module _ (lists : List (List Command)) (o : Opening) (m : Shortage) (s : State) (sound : IsSound o s) (known : AllTold s) (owners : OwnersThere s) (p : ℕ) (d : DriverPart) (is_d : IsDriver s p d) where
   begins_is : (next : Option Command) (c : Command) → next ≡ Some c → d.doing ≡ None → beginning next d ≡ Some (resolved c d.calls)
   begins_is next c some rests = ap (λ n. beginning n d) some ∙ ap (λ doing. elim doing [ Some one ↦ None | None ↦ Some (resolved c d.calls) ]) rests
 
@@ -110,22 +102,22 @@ module _ (lists : List (List Command)) (o : Opening) (m : Shortage) (s : State) 
       let old = same_part s.drivers p step.driver d step.is_driver is_d in
       record {
         sound = step_sound o s p (beginning next d) t sound step;
-        known = told_kept sound known step;
+        known = told_kept sound known step; owners = owners_kept sound.numbered owners step;
         holds = subst (λ en. HoldsAt lists t (to en)) (ap (λ one. ending one step.new_driver) old ∙ ap (ending d) (sym (driver_same t p d step.new_driver (new_driver step)))) (goes t step old);
       }
   step_result next to some stays goes None is = by_doing d.doing refl
     where
       by_doing : (doing : Option Doing) → d.doing ≡ doing → Kept lists o (record { state = s; stage = to (ending d (driver_after s p d)) })
-      by_doing (Some doing) opened = record { sound = sound; known = known; holds = subst (λ en. HoldsAt lists s (to en)) (sym (open_ending s p d doing is_d opened)) stays }
+      by_doing (Some doing) opened = record { sound = sound; known = known; owners = owners; holds = subst (λ en. HoldsAt lists s (to en)) (sym (open_ending s p d doing is_d opened)) stays }
       by_doing None rests = absurd (must_step next some (sym is) rests)
 
   -- a turn
   turn_result : (next : Option Command) (r : Option State) → r ≡ stepped o (is_short m d (beginning next d)) p (beginning next d) s → (turns : List ℕ)
       → Kept lists o (record { state = elim r [ None ↦ s | Some t ↦ t ]; stage = Turning turns })
-  turn_result next None is turns = record { sound = sound; known = known; holds = tt }
+  turn_result next None is turns = record { sound = sound; known = known; owners = owners; holds = tt }
   turn_result next (Some t) is turns =
       let step = step_of o (is_short m d (beginning next d)) p (beginning next d) s t (sym is) in
-      record { sound = step_sound o s p (beginning next d) t sound step; known = told_kept sound known step; holds = tt }
+      record { sound = step_sound o s p (beginning next d) t sound step; known = told_kept sound known step; owners = owners_kept sound.numbered owners step; holds = tt }
 
   -- a round at a driver
   round_kept : (gained : Bool) → HoldsAt lists s (Round p gained) → Kept lists o (round_at o lists m p gained s (Some d))
@@ -160,7 +152,7 @@ module _ (lists : List (List Command)) (o : Opening) (m : Shortage) (s : State) 
           waits_at none r f x below is_f is_x (inr apart) = holds.1 none idle_here r f x (omega (arith, below, apart)) is_f is_x
 
       by_step : (b : Bool) → b ≡ has_step lists p d → Kept lists o (cond b (record { state = with_step o m p (beginning (next_command lists p d) d) d s; stage = round_after p gained (ending d (driver_after (with_step o m p (beginning (next_command lists p d) d) d s) p d)) }) (record { state = s; stage = Round (p + 1) gained }))
-      by_step false has = record { sound = sound; known = known; holds = passed (rests_now (sym has)) }
+      by_step false has = record { sound = sound; known = known; owners = owners; holds = passed (rests_now (sym has)) }
       by_step true has = step_result (next_command lists p d) (round_after p gained) (some (sym has)) holds
           (λ t step old. round_goes lists sound known step (subst (λ one. beginning (next_command lists p d) d ≡ beginning (next_command lists p one) one) (sym old) refl) gained holds)
           (stepped o (is_short m d (beginning (next_command lists p d) d)) p (beginning (next_command lists p d) d) s) refl
@@ -193,7 +185,7 @@ module _ (lists : List (List Command)) (o : Opening) (m : Shortage) (s : State) 
       passed shut = (holds.0, (λ r apart. all_idle shut r), trying_at shut, λ none idle r f x below is_f is_x. emptied_at shut none r f x below is_f is_x (cases_eq r p))
 
       by_shut : (b : Bool) → b ≡ d.shut → Kept lists o (cond b (record { state = s; stage = Draining (p + 1) gained }) (record { state = with_step o m p (beginning (Some cmd.Await) d) d s; stage = drain_after p gained (ending d (driver_after (with_step o m p (beginning (Some cmd.Await) d) d s) p d)) }))
-      by_shut true shut = record { sound = sound; known = known; holds = passed (sym shut) }
+      by_shut true shut = record { sound = sound; known = known; owners = owners; holds = passed (sym shut) }
       by_shut false shut = step_result (Some cmd.Await) (drain_after p gained) (λ rests none. cc none) holds
           (λ t step old. drain_goes lists sound known step (subst (λ one. beginning (Some cmd.Await) d ≡ beginning (Some cmd.Await) one) (sym old) refl) (ap (λ one. one.shut) old ∙ sym shut) gained holds)
           (stepped o (is_short m d (beginning (Some cmd.Await) d)) p (beginning (Some cmd.Await) d) s) refl

@@ -1,9 +1,11 @@
 -- What holds while a schedule goes on: of drivers and their dead lists, and of the peers that a round or a pass has come by.
-use Rattle.std.specs.Prelude.{◌≡◌, ◌≢◌, ◌<◌, ◌⊎◌, ⊤, ℕ, Bool, true, false, List, [], ◌∷◌, Option, Some, None}
+use Rattle.std.specs.Prelude.{length, ◌≡◌, ◌≢◌, ◌<◌, ◌⊎◌, ⊤, ℕ, Bool, true, false, List, [], ◌∷◌, Option, Some, None}
 use Rattle.b1_model.specs.declared.naming.Key.{Key}
 use Rattle.b1_model.specs.declared.commands.Command.{Command}
 use Rattle.b1_model.specs.declared.commands.Command.TheVariants as cmd
 use Rattle.b1_model.specs.declared.entries.Entry.{Entry}
+use Rattle.b1_model.specs.declared.entries.Entry.TheVariants.{ForeignNotice}
+use Rattle.b1_step.specs.Rights.{Has}
 use Rattle.b1_model.specs.declared.events.Doing.{Doing}
 use Rattle.b1_model.specs.declared.events.Phase.{Phase}
 use Rattle.b1_model.specs.declared.events.Phase.TheVariants.{Reaping}
@@ -73,3 +75,12 @@ HoldsAt lists s (Round p gained) = ((r : ℕ) → r < p → IsIdle s r) × (gain
 HoldsAt lists s (Draining p gained) = AllEnded lists s × ((r : ℕ) → r ≢ p → IsIdle s r) × ((d : DriverPart) → IsDriver s p d → IsTrying d) × (gained ≡ false → IsIdle s p → AllBefore s p (λ r. IsEmptied))
 HoldsAt lists s Finished = AllEnded lists s × ((r : ℕ) → IsIdle s r) × ((r : ℕ) (d : DriverPart) (x : PeerPart) → IsDriver s r d → IsPeer s r x → IsEmptied d x)
 HoldsAt lists s Stalled = ((r : ℕ) → IsIdle s r) × ((r : ℕ) (d : DriverPart) (x : PeerPart) → IsDriver s r d → IsPeer s r x → IsWaiting lists r d x) × ((p : ℕ) × (d : DriverPart) × IsDriver s p d × (next_command lists p d ≢ None))
+
+-- the node of a foreign notice has an owner among so many peers
+abbrev pub HasOwner : ℕ → Entry → Type 0
+HasOwner peers (ForeignNotice node index) = node.owner < peers
+HasOwner peers e = ⊤
+
+-- the same of every queue
+abbrev pub OwnersThere : State → Type 0
+OwnersThere s = (q : ℕ) (x : PeerPart) (f : Key × Entry) → IsPeer s q x → Has x.queue f → HasOwner (length s.drivers) f.1
