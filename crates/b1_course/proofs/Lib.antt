@@ -8,3 +8,5 @@ pub mod Unmoved
 pub mod Rounds
 pub mod Moves
 pub mod Owners
+pub mod Plays
+pub mod Ends

@@ -1,20 +1,15 @@
 -- What holds of a schedule at its stage is kept by every move.
-use Rattle.std.proofs.Common.{◌≡◌, ◌≢◌, ◌⊎◌, refl, sym, ap, ◌∙◌, arith, inl, inr, subst, ℕ, zero, suc, ◌+◌, ◌<◌, ◌≤◌, Bool, true, false, cond, if◌then◌else◌, not, nat_lt, List, [], ◌∷◌, length, slice_get, filter, option_map, is_none, Option, Some, None}
-use Rattle.std.specs.List.{range_with_len}
-use Rattle.std.specs.Prelude.{⊤}
-use Rattle.b1_model.specs.MachineTook.{is_await}
+use Rattle.std.proofs.Common.{◌≡◌, ◌≢◌, ◌⊎◌, refl, sym, ap, ◌∙◌, arith, inl, inr, subst, ℕ, ◌+◌, ◌<◌, Bool, true, false, cond, if◌then◌else◌, not, nat_lt, List, length, slice_get, option_map, is_none, Option, Some, None}
 use Rattle.std.proofs.lemmas.Bool.{cases_eq}
 use Rattle.b1_model.specs.declared.naming.Opening.{Opening}
 use Rattle.b1_model.specs.declared.commands.Command.{Command}
 use Rattle.b1_model.specs.declared.commands.Command.TheVariants as cmd
-use Rattle.b1_model.specs.declared.events.Action.{Action}
 use Rattle.b1_model.specs.declared.events.Action.TheVariants as act
 use Rattle.b1_model.specs.declared.events.Doing.{Doing}
 use Rattle.b1_model.specs.declared.events.Phase.TheVariants.{Starting}
-use Rattle.b1_model.specs.Opening.{IsOpening}
 use Rattle.b1_model.specs.MachineParts.{PeerPart, DriverPart, State}
 use Rattle.b1_model.specs.MachineDriver.{first_action, next_action, peer_of}
-use Rattle.b1_model.specs.MachineStep.{Step, begun, begun_by, aimed, target, stepped, stepped_by, stepped_to, stepped_at, opening_state}
+use Rattle.b1_model.specs.MachineStep.{Step, begun, begun_by, aimed, stepped, stepped_by, stepped_to, stepped_at}
 use Rattle.b1_model.specs.MachineOrder.{next_command}
 use Rattle.b1_model.specs.Script.{resolved}
 use Rattle.b1_step.proofs.Steps.{step_of}
@@ -23,13 +18,13 @@ use Rattle.b1_shape.specs.Sound.{IsSound}
 use Rattle.b1_inv_tools.proofs.Leaves.{new_driver}
 use Rattle.b1_inv_sends.proofs.Events.{next_of}
 use Rattle.b1_inv_sends.proofs.SendsKept.{nothing_owed}
-use Rattle.b1_law.proofs.Reached.{opening_sound, step_sound}
+use Rattle.b1_law.proofs.Reached.{step_sound}
 use Rattle.b1_schedule.specs.Shortage.{Shortage, is_short}
-use Rattle.b1_schedule.specs.Schedule.{removed_by, beginning, with_step, ending, driver_after, Ending, Open, Called, Waits, Playing, Stage, Turning, Round, Draining, Finished, Stalled, round_after, drain_after, is_left, waiting_peers, turned_by, has_step, round_end, round_at, drain_at, moved, moves, start_of}
-use Rattle.b1_course.specs.Course.{OwnersThere, TryingBy, IsTrying, AllTold, IsBlocked, IsIdle, IsWaiting, IsEmptied, AllBefore, AllEnded, HoldsAt}
-use Rattle.b1_course.proofs.Holds.{peer_there, driver_there, told_kept, opening_told, same_part}
+use Rattle.b1_schedule.specs.Schedule.{removed_by, beginning, with_step, ending, driver_after, Ending, Open, Called, Waits, Playing, Stage, Turning, Round, Draining, round_after, drain_after, has_step, round_at, drain_at}
+use Rattle.b1_course.specs.Course.{OwnersThere, TryingBy, IsTrying, AllTold, IsIdle, IsWaiting, IsEmptied, HoldsAt}
+use Rattle.b1_course.proofs.Holds.{peer_there, driver_there, told_kept, same_part}
 use Rattle.b1_course.proofs.Rounds.{round_goes, drain_goes}
-use Rattle.b1_course.proofs.Owners.{owners_kept, opening_owners}
+use Rattle.b1_course.proofs.Owners.{owners_kept}
 
 -- what is kept
 pub record Kept (lists : List (List Command)) (o : Opening) (at : Playing) : Type 0 where
@@ -102,7 +97,8 @@ module _ (lists : List (List Command)) (o : Opening) (m : Shortage) (s : State) 
       let old = same_part s.drivers p step.driver d step.is_driver is_d in
       record {
         sound = step_sound o s p (beginning next d) t sound step;
-        known = told_kept sound known step; owners = owners_kept sound.numbered owners step;
+        known = told_kept sound known step;
+        owners = owners_kept sound.numbered owners step;
         holds = subst (λ en. HoldsAt lists t (to en)) (ap (λ one. ending one step.new_driver) old ∙ ap (ending d) (sym (driver_same t p d step.new_driver (new_driver step)))) (goes t step old);
       }
   step_result next to some stays goes None is = by_doing d.doing refl
@@ -112,7 +108,7 @@ module _ (lists : List (List Command)) (o : Opening) (m : Shortage) (s : State) 
       by_doing None rests = absurd (must_step next some (sym is) rests)
 
   -- a turn
-  turn_result : (next : Option Command) (r : Option State) → r ≡ stepped o (is_short m d (beginning next d)) p (beginning next d) s → (turns : List ℕ)
+  pub turn_result : (next : Option Command) (r : Option State) → r ≡ stepped o (is_short m d (beginning next d)) p (beginning next d) s → (turns : List ℕ)
       → Kept lists o (record { state = elim r [ None ↦ s | Some t ↦ t ]; stage = Turning turns })
   turn_result next None is turns = record { sound = sound; known = known; owners = owners; holds = tt }
   turn_result next (Some t) is turns =
@@ -120,7 +116,7 @@ module _ (lists : List (List Command)) (o : Opening) (m : Shortage) (s : State) 
       record { sound = step_sound o s p (beginning next d) t sound step; known = told_kept sound known step; owners = owners_kept sound.numbered owners step; holds = tt }
 
   -- a round at a driver
-  round_kept : (gained : Bool) → HoldsAt lists s (Round p gained) → Kept lists o (round_at o lists m p gained s (Some d))
+  pub round_kept : (gained : Bool) → HoldsAt lists s (Round p gained) → Kept lists o (round_at o lists m p gained s (Some d))
   round_kept gained holds = by_step (has_step lists p d) refl
     where
       next : Option Command
@@ -138,11 +134,13 @@ module _ (lists : List (List Command)) (o : Opening) (m : Shortage) (s : State) 
           by_parts None None is = (refl, refl)
 
       passed : (d.doing ≡ None) × (next_command lists p d ≡ None) → HoldsAt lists s (Round (p + 1) gained)
-      passed rests = ((λ r below. elim (cases_eq r p) [
-            | inl here ↦ (λ f is_f. ap (λ g. g.doing) (same_part s.drivers p f d (ap (slice_get s.drivers) (sym here) ∙ is_f) is_d) ∙ rests.0)
-            | inr apart ↦ holds.0 r (omega (arith, below, apart))
-          ]),
-          λ none idle r f x below is_f is_x. waits_at none r f x below is_f is_x (cases_eq r p))
+      passed rests = (
+        (λ r below. elim (cases_eq r p) [
+          | inl here ↦ (λ f is_f. ap (λ g. g.doing) (same_part s.drivers p f d (ap (slice_get s.drivers) (sym here) ∙ is_f) is_d) ∙ rests.0)
+          | inr apart ↦ holds.0 r (omega (arith, below, apart))
+        ]),
+        λ none idle r f x below is_f is_x. waits_at none r f x below is_f is_x (cases_eq r p),
+      )
         where
           idle_here : IsIdle s p
           idle_here f is_f = ap (λ g. g.doing) (same_part s.drivers p f d is_f is_d) ∙ rests.0
@@ -158,7 +156,7 @@ module _ (lists : List (List Command)) (o : Opening) (m : Shortage) (s : State) 
           (stepped o (is_short m d (beginning (next_command lists p d) d)) p (beginning (next_command lists p d) d) s) refl
 
   -- a pass of the drain at a driver
-  drain_kept : (gained : Bool) → HoldsAt lists s (Draining p gained) → Kept lists o (drain_at o m p gained s (Some d))
+  pub drain_kept : (gained : Bool) → HoldsAt lists s (Draining p gained) → Kept lists o (drain_at o m p gained s (Some d))
   drain_kept gained holds = by_shut d.shut refl
     where
       idle_here : d.shut ≡ true → d.doing ≡ None
@@ -170,9 +168,9 @@ module _ (lists : List (List Command)) (o : Opening) (m : Shortage) (s : State) 
 
       all_idle : d.shut ≡ true → (r : ℕ) → IsIdle s r
       all_idle shut r = elim (cases_eq r p) [
-          | inl here ↦ (λ f is_f. ap (λ g. g.doing) (same_part s.drivers p f d (ap (slice_get s.drivers) (sym here) ∙ is_f) is_d) ∙ idle_here shut)
-          | inr apart ↦ holds.1 r apart
-        ]
+        | inl here ↦ (λ f is_f. ap (λ g. g.doing) (same_part s.drivers p f d (ap (slice_get s.drivers) (sym here) ∙ is_f) is_d) ∙ idle_here shut)
+        | inr apart ↦ holds.1 r apart
+      ]
 
       emptied_at : d.shut ≡ true → gained ≡ false → (r : ℕ) (f : DriverPart) (x : PeerPart) → r < p + 1 → IsDriver s r f → IsPeer s r x → (r ≡ p) ⊎ (r ≢ p) → IsEmptied f x
       emptied_at shut none r f x below is_f is_x (inl here) = inl (ap (λ g. g.shut) (same_part s.drivers p f d (ap (slice_get s.drivers) (sym here) ∙ is_f) is_d) ∙ shut)

@@ -1,5 +1,5 @@
 -- Every queued foreign notice is of a peer that there is.
-use Rattle.std.proofs.Common.{cond, ◌≡◌, ◌≢◌, ◌⊎◌, refl, sym, ap, ◌∙◌, arith, inl, inr, subst, ℕ, ◌<◌, Bool, true, false, List, [], ◌∷◌, length, find, slice_get, Option, Some, None}
+use Rattle.std.proofs.Common.{cond, ◌≡◌, refl, sym, ◌∙◌, arith, inl, inr, subst, ℕ, ◌<◌, Bool, true, false, List, [], length, Option}
 use Rattle.b1_model.specs.declared.naming.Opening.{Opening}
 use Rattle.b1_model.specs.declared.naming.Key.{Key}
 use Rattle.b1_model.specs.declared.commands.Command.{Command}
@@ -13,16 +13,15 @@ use Rattle.b1_model.specs.MachineParts.{PeerPart, DriverPart, State}
 use Rattle.b1_model.specs.MachineTables.{is_stage, with_made}
 use Rattle.b1_model.specs.Names.{is_own}
 use Rattle.b1_course.proofs.Holds.{driver_there}
-use Rattle.b1_model.specs.MachineSend.{find_stage, with_slots, with_stamp}
+use Rattle.b1_model.specs.MachineSend.{with_slots}
 use Rattle.b1_model.specs.MachineEvents.{happens}
 use Rattle.b1_model.specs.MachineStep.{Step, opening_state, wire_made}
 use Rattle.b1_step.specs.Rights.{Has}
 use Rattle.b1_step.specs.Fixed.{IsNumbered}
 use Rattle.b1_step.proofs.Orders.{find_has}
 use Rattle.b1_step.proofs.Locality.{as_many_drivers}
-use Rattle.b1_shape.specs.Words.{IsPeer, IsDriver}
 use Rattle.b1_inv_tools.proofs.Leaves.{Did, step_did, peer_cases}
-use Rattle.b1_inv_tools.proofs.Comes.{Comes, ComesOrWas, queue_comes}
+use Rattle.b1_inv_tools.proofs.Comes.{Comes, queue_comes}
 use Rattle.b1_inv_tools.proofs.Openings.{opening_each}
 use Rattle.b1_course.specs.Course.{HasOwner, OwnersThere}
 
@@ -55,9 +54,9 @@ module _ {o : Opening} {s : State} {p : ℕ} {command : Option Command} {t : Sta
 
   pub owners_kept : OwnersThere t
   owners_kept q y f is_y has = subst (λ n. HasOwner n f.1) (sym (as_many_drivers step)) (elim (peer_cases step q y is_y) [
-      | inl at ↦ event_owner o k.e k.doing step.peer (length s.drivers) here (λ g there. owners step.at step.peer g step.is_peer there) step.local.memory step.action f (subst (λ z. Has z.queue f) (at.1 ∙ k.peer) has)
-      | inr elsewhere ↦ owners q y f elsewhere.1 has
-    ])
+    | inl at ↦ event_owner o k.e k.doing step.peer (length s.drivers) here (λ g there. owners step.at step.peer g step.is_peer there) step.local.memory step.action f (subst (λ z. Has z.queue f) (at.1 ∙ k.peer) has)
+    | inr elsewhere ↦ owners q y f elsewhere.1 has
+  ])
 
 abbrev Unqueued : PeerPart → Type 0
 Unqueued x = x.queue ≡ []

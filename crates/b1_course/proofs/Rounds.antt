@@ -1,5 +1,5 @@
 -- A step of a round and a step of the drain keep what holds of the peers that they came by.
-use Rattle.std.proofs.Common.{◌≡◌, ◌≢◌, ◌⊎◌, refl, sym, ap, ◌∙◌, arith, inl, inr, subst, ℕ, zero, suc, ◌+◌, ◌<◌, ◌≤◌, Bool, true, false, cond, ◌||◌, not, nat_lt, List, [], ◌∷◌, ◌++◌, length, slice_get, Option, Some, None}
+use Rattle.std.proofs.Common.{◌≡◌, ◌≢◌, refl, sym, ap, ◌∙◌, arith, inl, inr, subst, ℕ, zero, suc, ◌+◌, ◌<◌, ◌≤◌, Bool, true, false, cond, ◌||◌, nat_lt, List, [], ◌∷◌, length, slice_get, Option, Some, None}
 use Rattle.std.proofs.lemmas.Bool.{cases_eq}
 use Rattle.b1_model.specs.declared.naming.Opening.{Opening}
 use Rattle.b1_model.specs.declared.commands.Command.{Command}
@@ -7,7 +7,6 @@ use Rattle.b1_model.specs.declared.commands.Command.TheVariants as cmd
 use Rattle.b1_model.specs.declared.records.Call.{Call}
 use Rattle.b1_model.specs.declared.events.Doing.{Doing}
 use Rattle.b1_model.specs.MachineParts.{PeerPart, DriverPart, State}
-use Rattle.std.specs.Prelude.{⊤}
 use Rattle.b1_model.specs.declared.answers.Answer.{Answer}
 use Rattle.b1_model.specs.declared.events.Outcome.{Outcome}
 use Rattle.b1_model.specs.declared.events.Outcome.TheVariants as out
@@ -22,10 +21,10 @@ use Rattle.b1_step.proofs.Locality.{step_grows}
 use Rattle.b1_course.proofs.Waits.{length_more}
 use Rattle.b1_shape.specs.Words.{IsPeer, IsDriver}
 use Rattle.b1_shape.specs.Sound.{IsSound}
-use Rattle.b1_inv_tools.proofs.Leaves.{Did, step_did, turned_open, driver_cases, peer_cases, new_driver, new_peer, same_driver, same_peer}
+use Rattle.b1_inv_tools.proofs.Leaves.{Did, step_did, turned_open, driver_cases, peer_cases, new_driver}
 use Rattle.b1_schedule.specs.Schedule.{beginning, Ending, Open, Called, Waits, ending, removed_by, gains, Round, Draining, round_after, drain_after}
 use Rattle.b1_course.specs.Course.{TryingBy, IsTrying, AllTold, IsBlocked, IsIdle, IsWaiting, IsEmptied, AllBefore, AllEnded, HoldsAt}
-use Rattle.b1_course.proofs.Holds.{same_part, was_peer}
+use Rattle.b1_course.proofs.Holds.{same_part}
 use Rattle.b1_course.proofs.Unmoved.{Unmoved, unmoved}
 
 resolved_await : (c : Command) (calls : List Call) → resolved c calls ≡ cmd.Await → c ≡ cmd.Await
@@ -105,9 +104,9 @@ module _ (lists : List (List Command)) {o : Opening} {s : State} {p : ℕ} {comm
   -- other drivers stay idle
   others_idle : (r : ℕ) → r ≢ p → IsIdle s r → IsIdle t r
   others_idle r apart idle d is = elim (driver_cases step r d is) [
-      | inl here ↦ absurd (apart here.0)
-      | inr elsewhere ↦ idle d elsewhere.1
-    ]
+    | inl here ↦ absurd (apart here.0)
+    | inr elsewhere ↦ idle d elsewhere.1
+  ]
 
   own_rests : step.new_driver.doing ≡ None → IsIdle t p
   own_rests rests d is = ap (λ e. e.doing) (same_part t.drivers p d step.new_driver is (new_driver step)) ∙ rests
@@ -119,15 +118,15 @@ module _ (lists : List (List Command)) {o : Opening} {s : State} {p : ℕ} {comm
   module _ (still : Unmoved step) where
     same_peers : (q : ℕ) (y : PeerPart) → IsPeer t q y → IsPeer s q y
     same_peers q y is = elim (peer_cases step q y is) [
-        | inl here ↦ ap (slice_get s.peers) here.0 ∙ step.is_peer ∙ ap Some (sym still.same ∙ sym here.1)
-        | inr elsewhere ↦ elsewhere.1
-      ]
+      | inl here ↦ ap (slice_get s.peers) here.0 ∙ step.is_peer ∙ ap Some (sym still.same ∙ sym here.1)
+      | inr elsewhere ↦ elsewhere.1
+    ]
 
     before_kept : (n : ℕ) (P : ℕ → DriverPart → PeerPart → Type 0) → n ≤ p → AllBefore s n P → AllBefore t n P
     before_kept n P few before r d x below is_d is_x = elim (driver_cases step r d is_d) [
-        | inl here ↦ absurd (omega (arith, below, few, here.0))
-        | inr elsewhere ↦ before r d x below elsewhere.1 (same_peers r x is_x)
-      ]
+      | inl here ↦ absurd (omega (arith, below, few, here.0))
+      | inr elsewhere ↦ before r d x below elsewhere.1 (same_peers r x is_x)
+    ]
 
     idle_before : IsIdle s p
     idle_before d is = ap (λ e. e.doing) (same_part s.drivers p d step.driver is step.is_driver) ∙ still.closed
@@ -201,9 +200,9 @@ module _ (lists : List (List Command)) {o : Opening} {s : State} {p : ℕ} {comm
 
   ended_kept : AllEnded lists s → AllEnded lists t
   ended_kept ended r d is_d = elim (driver_cases step r d is_d) [
-      | inl here ↦ subst (λ e. next_command lists r e ≡ None) (sym here.1) (past_end (commands_of lists r) (length step.driver.calls) (length step.new_driver.calls) (ended r step.driver (ap (slice_get s.drivers) here.0 ∙ step.is_driver)) more_calls)
-      | inr elsewhere ↦ ended r d elsewhere.1
-    ]
+    | inl here ↦ subst (λ e. next_command lists r e ≡ None) (sym here.1) (past_end (commands_of lists r) (length step.driver.calls) (length step.new_driver.calls) (ended r step.driver (ap (slice_get s.drivers) here.0 ∙ step.is_driver)) more_calls)
+    | inr elsewhere ↦ ended r d elsewhere.1
+  ]
 
   drain_emptied : (gained : Bool) → HoldsAt lists s (Draining p gained) → step.new_driver.doing ≡ None → length step.new_driver.calls ≤ length step.driver.calls → gains gained (removed_by step.new_driver) ≡ false → AllBefore t (p + 1) (λ r. IsEmptied)
   drain_emptied gained holds rests few none r d x below is_d is_x =
@@ -227,9 +226,9 @@ module _ (lists : List (List Command)) {o : Opening} {s : State} {p : ℕ} {comm
 
     awaits : (gained : Bool) → HoldsAt lists s (Draining p gained) → is_await k.doing.command ≡ true
     awaits gained holds = elim k.opened.from [
-        | inl is ↦ (subst (TryingBy step.driver.shut) is (holds.2 step.driver step.is_driver)).1
-        | inr starts ↦ ap is_await (some_is (sym starts.1 ∙ begins ∙ beginning_closed (Some cmd.Await) step.driver starts.0))
-      ]
+      | inl is ↦ (subst (TryingBy step.driver.shut) is (holds.2 step.driver step.is_driver)).1
+      | inr starts ↦ ap is_await (some_is (sym starts.1 ∙ begins ∙ beginning_closed (Some cmd.Await) step.driver starts.0))
+    ]
       where
         some_is : {a b : Command} → Some a ≡ Some b → a ≡ b
         some_is is = cc is
@@ -252,5 +251,9 @@ module _ (lists : List (List Command)) {o : Opening} {s : State} {p : ℕ} {comm
     drain_goes gained holds = by_open (λ en. HoldsAt lists t (drain_after p gained en))
         (λ doing is. (ended_kept holds.0, (λ r apart. others_idle r apart (holds.1 r apart)), open_trying gained holds doing is, λ none idle. absurd (is_still_open doing is idle)))
         (λ rests. (ended_kept holds.0, (λ r apart. others_idle r apart (holds.1 r apart)), idle_trying p (own_rests rests), λ none idle. absurd (cc none)))
-        (λ rests few. (ended_kept holds.0, (λ r apart. elim (cases_eq r p) [ inl here ↦ subst (IsIdle t) (sym here) (own_rests rests) | inr away ↦ others_idle r away (holds.1 r away) ]),
-          idle_trying (p + 1) (others_idle (p + 1) (λ same. omega (arith, same)) (holds.1 (p + 1) (λ same. omega (arith, same)))), λ none idle. drain_emptied gained holds rests few none))
+        (λ rests few. (
+          ended_kept holds.0,
+          (λ r apart. elim (cases_eq r p) [ inl here ↦ subst (IsIdle t) (sym here) (own_rests rests) | inr away ↦ others_idle r away (holds.1 r away) ]),
+          idle_trying (p + 1) (others_idle (p + 1) (λ same. omega (arith, same)) (holds.1 (p + 1) (λ same. omega (arith, same)))),
+          λ none idle. drain_emptied gained holds rests few none,
+        ))
