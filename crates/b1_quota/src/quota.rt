@@ -76,6 +76,36 @@ impl Quota {
         })
     }
 
+    /// The limits.
+    pub fn limits(&self) -> Limits
+        ensures { result ≡ self.now.limits }
+    {
+        self.limits
+    }
+
+    /// The peer's own user.
+    pub fn home(&self) -> u32
+        ensures { result ≡ self.now.home }
+    {
+        self.home
+    }
+
+    /// Why `charge` would refuse a charge; `None` where it would not.
+    pub fn over(&self, user: u32, asked: Charge) -> Option<Over>
+        ensures { result ≡ refusal self.now user asked }
+    {
+        if let Err(over) = self.check(user, &asked, Quantity::Entries) {
+            return Some(over);
+        }
+        if let Err(over) = self.check(user, &asked, Quantity::Bytes) {
+            return Some(over);
+        }
+        match self.check(user, &asked, Quantity::Handles) {
+            Ok(()) => None,
+            Err(over) => Some(over),
+        }
+    }
+
     /// Charges a user. An error names the first quantity that fails, of entries, bytes and handles, and leaves all as it
     /// was. A quantity of which nothing is asked never fails.
     pub fn charge(&mut self, user: u32, asked: Charge) -> Result<(), Over>

@@ -98,7 +98,17 @@ fn resolve_send(alloc: Global, send: &SendCmd, calls: &[Call]) -> Result<SendCmd
 pub fn resolve(alloc: Global, command: &Command, calls: &Calls) -> Result<Command, AllocError>
     ensures { IfOk result (λ c. c ≡ resolved command.now calls.now) }
 {
-    let calls = calls.as_slice();
+    resolve_after(alloc, command, calls.as_slice())
+}
+
+/// The same after calls that stand in a slice. An error is want of memory.
+pub fn resolve_after(
+    alloc: Global,
+    command: &Command,
+    calls: &[Call],
+) -> Result<Command, AllocError>
+    ensures { IfOk result (λ c. c ≡ resolved command.now calls.now) }
+{
     match command {
         Command::Disconnect => Ok(Command::Disconnect),
         Command::Query => Ok(Command::Query),

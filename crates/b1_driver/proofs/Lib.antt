@@ -1,0 +1,4 @@
+pub mod Lists
+pub mod Drops
+pub mod Fitting
+pub mod Took

@@ -1,0 +1,6 @@
+use Rattle.std.proofs.Common.{[], sym}
+use Rattle.b1_driver.proofs.Lists.{read_none}
+use Rattle.b1_driver.proofs.seen.slots_at.Goals as goal
+
+pub returns-in-None : goal.returns-in-None
+returns-in-None c = sym (read_none c.args.slots.now c.args.place [] (sym c.in-None.ensures))

@@ -1,0 +1,7 @@
+pub mod ListLemmas
+pub mod RowLemmas
+pub mod TiedLemmas
+pub mod CommitLemmas
+pub mod NoticeLemmas
+pub mod MailLemmas
+pub mod ChargeLemmas
