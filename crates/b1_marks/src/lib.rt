@@ -1,0 +1,6 @@
+//! Staged own notices in one queue have places of their own, in every reached state.
+#![tactic(auto)]
+
+mod laws;
+
+pub use laws::own_notices_stand_apart;
