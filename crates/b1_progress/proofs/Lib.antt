@@ -1,3 +1,5 @@
+pub mod PeerLevels
+pub mod Attempts
 pub mod Weights
 pub mod Kept
 pub mod Falls

@@ -2,5 +2,7 @@
 #![tactic(auto)]
 
 mod laws;
+mod levels;
 
 pub use laws::a_command_ends;
+pub use levels::{an_attempt_lowers_the_level, attempts_are_answered};

@@ -4,3 +4,4 @@ pub mod Turns
 pub mod Bits
 pub mod Steps
 pub mod States
+pub mod Moves

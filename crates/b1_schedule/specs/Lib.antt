@@ -1,3 +1,4 @@
 pub mod Shortage
 pub mod Schedule
 pub mod Agreement
+pub mod Played
