@@ -1,4 +1,4 @@
-ghost use Rattle.std.specs.Prelude.{◌≡◌, ◌+◌, ◌++◌, ◌<◌, ◌^◌, [], false, true, nat_lt, if◌then◌else◌, is_none, IfOk, OnOk, OnErr, IfSome, IfNone, None, Some, MatchResult};
+ghost use Rattle.std.specs.Prelude.{◌≡◌, ◌+◌, ◌++◌, ◌<◌, ◌^◌, [], false, true, length, nat_lt, if◌then◌else◌, is_none, IfOk, OnOk, OnErr, IfSome, IfNone, None, Some, MatchResult};
 ghost use Rattle.b1_model.specs.MachineParts.{record_of, record_or_none};
 ghost use Rattle.b1_model.specs.MachineTables.{changed, changed_or_made, more_flight, less_flight, less_held, noticed, made_dead, held_node};
 ghost use Rattle.b1_model.specs.MachineDestroy.{held_items};
@@ -48,6 +48,13 @@ impl HandleTable {
             records: Vec::new(alloc),
             given: 0,
         }
+    }
+
+    /// How many records there are.
+    pub fn len(&self) -> usize
+        ensures { result ≡ length self.now.records }
+    {
+        self.records.len()
     }
 
     /// One more queued slot carries a node. The answer is whether its record was made. An error is want of memory, also

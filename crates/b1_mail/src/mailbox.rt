@@ -1,4 +1,4 @@
-ghost use Rattle.std.specs.Prelude.{◌≡◌, ℕ, ◌+◌, ◌-◌, ◌<◌, ◌≤◌, ◌==◌, true, false, [], drop, find, is_some, IfOk, OnOk, OnErr, slice_get, option_map, if◌then◌else◌, None};
+ghost use Rattle.std.specs.Prelude.{◌≡◌, ℕ, ◌+◌, ◌-◌, ◌<◌, ◌≤◌, ◌==◌, true, false, [], drop, find, is_some, length, IfOk, OnOk, OnErr, slice_get, option_map, if◌then◌else◌, None};
 ghost use Rattle.std.specs.List.{list_any};
 ghost use Rattle.b1_step.specs.Ordered.{NewKey};
 ghost use Rattle.b1_model.specs.MachineParts.{is_odd, is_data, is_release_notice};
@@ -79,6 +79,13 @@ impl<Q: QueueKind> Mailbox<Q> {
         ensures { result ≡ self.now.home }
     {
         self.quota.home()
+    }
+
+    /// How many entries there are.
+    pub fn len(&self) -> usize
+        ensures { result ≡ length self.now.queue }
+    {
+        self.shelf.len()
     }
 
     /// Makes room for `n` more entries. An error is want of memory, and leaves all as it was.

@@ -47,6 +47,13 @@ impl<Q: QueueKind> Shelf<Q> {
         }
     }
 
+    /// How many entries there are.
+    pub fn len(&self) -> usize
+        ensures { result ≡ length self.now.queue }
+    {
+        self.rows.len
+    }
+
     /// Makes room for `n` more entries. An error is want of memory, and leaves all as it was.
     pub fn reserve(&mut self, n: usize) -> Result<(), AllocError>
         ensures queue { self.new.queue ≡ self.old.queue }

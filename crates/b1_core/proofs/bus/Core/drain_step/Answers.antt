@@ -1,0 +1,70 @@
+use Rattle.std.proofs.Common.{◌≡◌, ◌∙◌, refl, sym, ap, subst, length, not, is_none}
+use Rattle.std.specs.Prelude.{IfOk}
+use native.Mathlib.Omega.{arith}
+use Rattle.b1_core.specs.Turns.{Bus, drained, Drains}
+use Rattle.b1_core.specs.Bus.{state_of}
+use Rattle.b1_core.proofs.Turning.{as_many_drivers, as_many_peers}
+use Rattle.b1_core.proofs.Buses.{part_is, core_tried, drains_tried, drain_begins}
+use Rattle.b1_core.proofs.bus.Core.drain_step.Goals as goal
+
+pub index-requires : goal.index-requires
+index-requires g c =
+    let o = c.self.inside.opening in
+    let lists = c.self.inside.commands in
+    let xs = c.self.inside.peers.items in
+    let ds = c.self.inside.drivers.items in
+    let p = c.args.p in
+    let core = c.self.invariant.core in
+    let many = as_many_drivers o xs ds core.opening core.reached core.stocked in
+    let same = ap (λ (b : Bus). length b.opening.peers) c.self.view_is in
+    omega (arith, many, same, c.requires.peer, c.self.inside.drivers.ok.0)
+
+pub turn-requires-clause-begins : goal.turn-requires-clause-begins
+turn-requires-clause-begins g c =
+    let o = c.self.inside.opening in
+    let lists = c.self.inside.commands in
+    let xs = c.self.inside.peers.items in
+    let ds = c.self.inside.drivers.items in
+    let p = c.args.p in
+    let core = c.self.invariant.core in
+    let many = as_many_drivers o xs ds core.opening core.reached core.stocked in
+    let same = ap (λ (b : Bus). length b.opening.peers) c.self.view_is in
+    let d = c.index.result.now in
+    let here = part_is ds p d (omega (arith, many, same, c.requires.peer)) c.index.ensures in
+    ap (λ r. is_none r) c.drain_command-command.ensures ∙ drain_begins d.part ∙ ap (λ f. not (is_none f.doing)) (sym here)
+
+pub invariant_of-self : goal.invariant_of-self
+invariant_of-self g c =
+    let o = c.self.inside.opening in
+    let lists = c.self.inside.commands in
+    let xs = c.self.inside.peers.items in
+    let ds = c.self.inside.drivers.items in
+    let p = c.args.p in
+    let core = c.self.invariant.core in
+    let many = as_many_drivers o xs ds core.opening core.reached core.stocked in
+    let same = ap (λ (b : Bus). length b.opening.peers) c.self.view_is in
+    let ys = c.turn.new.peers.items in
+    let es = c.turn.new.drivers.items in
+    let moved = core_tried o lists xs ys ds es p c.drain_command-command.result c.turn.result core c.turn.ensures.step c.turn.ensures.stocked c.turn.ensures.peers c.turn.ensures.drivers in
+    let before = as_many_peers o xs ds core.opening core.reached core.stocked in
+    let after = as_many_peers o ys es moved.opening moved.reached moved.stocked in
+    record { core = moved; empty = c.self.invariant.empty; room = omega (arith, before, after, c.self.invariant.room) }
+
+pub returns-clause-turn : goal.returns-clause-turn
+returns-clause-turn g c =
+    let o = c.self.inside.opening in
+    let lists = c.self.inside.commands in
+    let xs = c.self.inside.peers.items in
+    let ds = c.self.inside.drivers.items in
+    let p = c.args.p in
+    let core = c.self.invariant.core in
+    let many = as_many_drivers o xs ds core.opening core.reached core.stocked in
+    let same = ap (λ (b : Bus). length b.opening.peers) c.self.view_is in
+    let ys = c.turn.new.peers.items in
+    let es = c.turn.new.drivers.items in
+    let d = c.index.result.now in
+    let here = part_is ds p d (omega (arith, many, same, c.requires.peer)) c.index.ensures in
+    let old : Bus = record { opening = o; commands = lists; state = state_of xs ds } in
+    let new : Bus = record { opening = o; commands = lists; state = state_of ys es } in
+    subst (λ b. IfOk c.turn.result (λ t. Drains b p t new)) c.self.view_is
+    (drains_tried old new p c.drain_command-command.result c.turn.result c.turn.ensures.step (c.drain_command-command.ensures ∙ ap drained (sym here)) refl refl)

@@ -1,0 +1,24 @@
+use Rattle.std.proofs.Common.{◌≡◌, ◌<◌, ◌+◌, ◌∙◌, sym, ap, subst, length, take, drop, get_or}
+use native.Mathlib.Omega.{arith}
+use Rattle.b1_model.specs.declared.naming.Wire.{Wire}
+use Rattle.std.specs.List.{All}
+use Rattle.b1_core.specs.Events.{HasUsers}
+use Rattle.b1_core.specs.Wiring.{CanGive}
+use Rattle.b1_core.proofs.Wiring.{after}
+use Rattle.b1_core.proofs.Giving.{can_give}
+use Rattle.b1_core.proofs.Openings.{split_at}
+use Rattle.b1_core.proofs.making.make_peers.Goals as goal
+
+pub give-requires : goal.give-requires
+give-requires g c =
+    let o = c.args.opening.now in
+    let i = c.loop-wire.wire-index in
+    let none : Wire = record { from = 0; to = 0; number = 0 } in
+    let same = c.as_slice-wire-items.ensures in
+    let within = c.loop-wire-test.true in
+    let is_within : i < length o.wires = omega (arith, within, ap length same) in
+    subst (λ l. CanGive l (get_or c.as_slice-wire-items.result.now i none)) (sym c.loop-wire.invariant.parts)
+    (subst (λ ws. CanGive (after o (take i o.wires)) (get_or ws i none)) (sym same) (can_give c.reached_states_bear_events.ensures o c.requires (take i o.wires) (get_or o.wires i none) (drop (i + 1) o.wires) (split_at o.wires i none is_within)))
+
+pub returns-clause-users : goal.returns-clause-users
+returns-clause-users g c = subst (All (HasUsers c.args.opening.now)) (sym c.loop-wire.invariant.users) c.in_ok-peers.ensures.users

@@ -1,0 +1,13 @@
+pub mod Counts
+pub mod RecordFields
+pub mod RecordLists
+pub mod Places
+pub mod Entries
+pub mod QueueEvents
+pub mod CommitEvents
+pub mod NodeEvents
+pub mod Flights
+pub mod Clearing
+pub mod Rooms
+pub mod DestroyEvents
+pub mod FlushEvents

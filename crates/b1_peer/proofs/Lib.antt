@@ -1,0 +1,15 @@
+pub mod Bridges
+pub mod KeptSends
+pub mod KeptStage
+pub mod Fronts
+pub mod KeptRecv
+pub mod Discards
+pub mod Taken
+pub mod KeptMake
+pub mod KeptReceive
+pub mod KeptBegins
+pub mod KeptGives
+pub mod KeptDestroys
+pub mod KeptVisits
+pub mod KeptStamps
+pub mod KeptFlush

@@ -1,0 +1,10 @@
+pub mod Seen
+pub mod State
+pub mod Answers
+pub mod Notices
+pub mod Rooms
+pub mod Fronts
+pub mod Arrivals
+pub mod Begin
+pub mod Destructions
+pub mod Flush

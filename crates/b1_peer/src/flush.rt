@@ -1,0 +1,56 @@
+ghost use Rattle.std.specs.Prelude.{◌≡◌, ◌+◌, ◌≤◌, ◌<◌, ◌^◌, [], length};
+ghost use Rattle.b1_model.specs.MachineParts.{carried};
+ghost use Rattle.b1_model.specs.MachineDestroy.{queued_items, flushed};
+ghost use Rattle.b1_parts.specs.PeerOk.{count, is_message};
+ghost use Rattle.b1_peer.specs.Flush.{item_of, room_of, FewCarried};
+
+use crate::state::PeerState;
+use b1_carry::give_up_all;
+use b1_mail::Mailbox;
+use b1_model::{Entry, Key, Limits};
+use b1_pool::PoolKind;
+use b1_queue::QueueKind;
+use b1_stock::DeadList;
+
+impl<Q: QueueKind, P: PoolKind> PeerState<Q, P> {
+    /// Gives up the queue and the handles, frees the pool, sets new limits, and raises the epoch.
+    pub fn flush(&mut self, limits: Limits)
+        requires { self.old.part.epoch < 2 ^ 63 }
+        ensures { self.new ≡ record self.old { part = flushed self.old.part limits } }
+    {
+        empty_queue(&mut self.mail, &mut self.dead);
+        give_up_all(&mut self.handles, &mut self.dead);
+        self.store.clear();
+        self.mail.renew(limits);
+        self.epoch += 1;
+    }
+}
+
+/// Takes every entry out of a queue. The references of committed messages come on the dead list, where there must be room
+/// for as many items as there are messages; each carries at most 64 nodes.
+fn empty_queue<Q: QueueKind>(mail: &mut Mailbox<Q>, dead: &mut DeadList)
+    requires room { count is_message mail.old.queue ≤ dead.old.room }
+    requires few { FewCarried mail.old.queue }
+    ensures mail { mail.new ≡ record mail.old { queue = []; spare = mail.old.spare + length mail.old.queue } }
+    ensures items { dead.new.items ≡ queued_items mail.old.queue dead.old.items }
+    ensures room { dead.old.room ≤ dead.new.room + count is_message mail.old.queue }
+{
+    while let Some((key, entry)) = mail.take() {
+        give_up_entry(dead, key, entry);
+    }
+}
+
+/// Puts the references of a committed message on the dead list.
+fn give_up_entry(dead: &mut DeadList, key: Key, entry: Entry)
+    requires room { room_of (key, entry) ≤ dead.old.room }
+    requires few { length (carried entry) ≤ 64 }
+    ensures items { dead.new.items ≡ item_of (key, entry) dead.old.items }
+    ensures room { dead.old.room ≤ dead.new.room + room_of (key, entry) }
+{
+    if key.stamp % 2 == 1 {
+        return;
+    }
+    if let Entry::Message { with, slots, .. } = entry {
+        dead.add_references(with.as_slice(), slots.as_slice());
+    }
+}

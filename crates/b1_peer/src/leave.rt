@@ -1,0 +1,97 @@
+//! A queued message leaves a peer.
+
+ghost use Rattle.std.specs.Prelude.{◌≡◌, ◌+◌, ◌*◌, ◌-◌, ◌<◌, ◌≤◌, ◌^◌, ℕ, [], ◌∷◌, true, false, drop, length, zip, All, IsTrue, vec_capacity, Some, Ok, slice_get, option_map};
+ghost use Rattle.b1_model.specs.MachineParts.{is_data, carried};
+ghost use Rattle.b1_model.specs.MachinePool.{given_back};
+ghost use Rattle.b1_model.specs.MachineTables.{unexpected, foreign};
+ghost use Rattle.b1_model.specs.MachineSend.{offset_of};
+ghost use Rattle.b1_model.specs.MachineParts.{PeerPart, slots_of};
+ghost use Rattle.b1_model.specs.MachineReceive.{references, with_item, taken_entry, slots_arrived};
+ghost use Rattle.b1_store.specs.Slices.{is_queued, len_at};
+ghost use Rattle.b1_store.specs.Content.{Holds, padded, padded_len, message_bytes, SameElsewhere};
+ghost use Rattle.b1_mail.specs.Mail.{Mail};
+ghost use Rattle.b1_store.specs.Stored.{IsStored};
+ghost use Rattle.b1_carry.specs.Carry.{AreCarried};
+
+use b1_carry::unexpect_all;
+use b1_handles::HandleTable;
+use b1_mail::Mailbox;
+use b1_model::{Entry, Key};
+use b1_pool::PoolKind;
+use b1_queue::QueueKind;
+use b1_stock::DeadList;
+use b1_store::Store;
+
+/// Gives a message's slice back, and counts one fewer queued slot for each node of another peer that it carries.
+pub fn take_back<P: PoolKind>(
+    store: &mut Store<P>,
+    handles: &mut HandleTable,
+    me: u32,
+    entry: Entry,
+)
+    requires message { is_data entry ≡ true }
+    requires queued { IsTrue (is_queued (offset_of entry) store.old.slices) }
+    requires carried { AreCarried (foreign me (carried entry)) handles.old.records }
+    ensures slices { store.new.slices ≡ given_back (offset_of entry) store.old.slices }
+    ensures size { store.new.size ≡ store.old.size }
+    ensures bytes { store.new.bytes ≡ store.old.bytes }
+    ensures stored { IsStored store.new }
+    ensures handles { handles.new ≡ record handles.old { records = unexpected (foreign me (carried entry)) handles.old.records } }
+{
+    match entry {
+        Entry::Message { offset, with, .. } => {
+            store.cancel(offset);
+            unexpect_all(handles, me, with.as_slice());
+        }
+        _ => unreachable!(),
+    }
+}
+
+/// Gives a message's slice back, counts one fewer queued slot for each node of another peer that it carries, and puts its
+/// references on the dead list. There must be room for one more item.
+pub fn drop_message<P: PoolKind>(
+    store: &mut Store<P>,
+    handles: &mut HandleTable,
+    dead: &mut DeadList,
+    me: u32,
+    entry: Entry,
+)
+    requires message { is_data entry ≡ true }
+    requires queued { IsTrue (is_queued (offset_of entry) store.old.slices) }
+    requires carried { AreCarried (foreign me (carried entry)) handles.old.records }
+    requires room { 1 ≤ dead.old.room }
+    requires few { length (carried entry) ≤ 64 }
+    ensures slices { store.new.slices ≡ given_back (offset_of entry) store.old.slices }
+    ensures size { store.new.size ≡ store.old.size }
+    ensures bytes { store.new.bytes ≡ store.old.bytes }
+    ensures stored { IsStored store.new }
+    ensures handles { handles.new ≡ record handles.old { records = unexpected (foreign me (carried entry)) handles.old.records } }
+    ensures items { dead.new.items ≡ with_item (references entry) dead.old.items }
+    ensures room { dead.old.room ≤ dead.new.room + 1 }
+{
+    match entry {
+        Entry::Message {
+            offset,
+            with,
+            slots,
+            ..
+        } => {
+            store.cancel(offset);
+            unexpect_all(handles, me, with.as_slice());
+            dead.add_references(with.as_slice(), slots.as_slice());
+        }
+        _ => unreachable!(),
+    }
+}
+
+/// Removes the front entry, and answers its key. There must be one.
+pub fn take_key<Q: QueueKind>(mail: &mut Mailbox<Q>) -> Key
+    requires { 1 ≤ length mail.old.queue }
+    ensures key { option_map (λ f. f.0) (slice_get mail.old.queue 0) ≡ Some result }
+    ensures mail { mail.new ≡ record mail.old { queue = drop 1 mail.old.queue; spare = mail.old.spare + 1 } }
+{
+    match mail.take() {
+        Some((key, _)) => key,
+        None => unreachable!(),
+    }
+}

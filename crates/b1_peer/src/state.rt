@@ -1,0 +1,37 @@
+use b1_handles::HandleTable;
+use b1_mail::Mailbox;
+use b1_nodes::NodeTable;
+use b1_pool::PoolKind;
+use b1_queue::QueueKind;
+use b1_stock::{DeadList, Stock};
+use b1_store::Store;
+use std::alloc::Global;
+use std::marker::Model;
+
+/// A peer: its clock, its queue, its pool, its nodes, its records of other peers' nodes, and the references that it is to
+/// give up.
+#[derive(Drop)]
+pub struct PeerState<Q: QueueKind, P: PoolKind> {
+    pub(crate) me: u32,
+    pub(crate) peers: u32,
+    pub(crate) epoch: u64,
+    pub(crate) clock: u64,
+    pub(crate) mail: Mailbox<Q>,
+    pub(crate) store: Store<P>,
+    pub(crate) nodes: NodeTable,
+    pub(crate) handles: HandleTable,
+    pub(crate) dead: DeadList,
+    pub(crate) numbers: Stock<u64>,
+    pub(crate) alloc: Global,
+}
+
+impl<Q: QueueKind, P: PoolKind> Model for PeerState<Q, P> {
+    ghost use Rattle.b1_peer.specs.Seen.{PeerSeen};
+    ghost use Rattle.b1_peer.specs.State.{seen_of, IsPeer};
+
+    ghost Value = { PeerSeen };
+
+    ghost view = { λ p. seen_of (record { me = p.me; peers = p.peers; epoch = p.epoch; clock = p.clock; mail = p.mail; store = p.store; nodes = p.nodes; handles = p.handles; dead = p.dead; numbers = p.numbers }) };
+
+    ghost invariant = { λ p. IsPeer (record { me = p.me; peers = p.peers; epoch = p.epoch; clock = p.clock; mail = p.mail; store = p.store; nodes = p.nodes; handles = p.handles; dead = p.dead; numbers = p.numbers }) };
+}
