@@ -1,0 +1,10 @@
+-- What the play of a script gives.
+use Rattle.b1_schedule.specs.Schedule.{IsPlay, IsStall}
+use Rattle.b1_script.specs.declared.script.Script.{Script}
+use Rattle.b1_player.specs.declared.Played.{Played}
+use Rattle.b1_player.specs.declared.Played.TheVariants.{Done, Stalled}
+
+-- the record of where the script's schedule ends, or of where it stalls, with the peers that wait
+abbrev pub IsPlayed : Script → Played → Type 0
+IsPlayed s (Done r) = IsPlay s.opening s.commands s.turns r
+IsPlayed s (Stalled waiting reached) = IsStall s.opening s.commands s.turns waiting reached
