@@ -31,6 +31,7 @@ pub fn play(alloc: Global, script: &Script) -> Result<Played, AllocError>
     requires turns { AllByRecursion (λ p. p < length script.now.opening.peers) script.now.turns }
     ensures { IfOk result (λ played. IsPlayed script.now played) }
 {
-    let _ = (alloc, script);
+    let _ = alloc;
+    let _ = script;
     Err(AllocError)
 }

@@ -8,13 +8,15 @@ use Rattle.b1_judge.specs.Judged.{AllHold, IsFirstBreak}
 use Rattle.b1_model.specs.declared.records.Record.{Record}
 use Rattle.b1_model.specs.Legal.{Legal, Whole}
 use Rattle.b1_model.specs.MachineOrder.{Stuck, DrainedOf}
+use Rattle.b1_model.specs.MachineParts.{State}
+use Rattle.b1_model.specs.MachineStep.{record_of_state}
 use Rattle.b1_model.specs.Names.{calls_of}
 use Rattle.b1_model.specs.Script as follows
 use Rattle.b1_player.specs.declared.Played.{Played}
 use Rattle.b1_player.specs.declared.Played.TheVariants as played
 use Rattle.b1_report.specs.Report.{report_text}
 use Rattle.b1_report.specs.Parsing as reports
-use Rattle.b1_schedule.specs.Schedule.{IsPlay, IsStall}
+use Rattle.b1_schedule.specs.Schedule.{IsPlay, IsStall, waiting_peers}
 use Rattle.b1_script.specs.declared.script.Script.{Script}
 use Rattle.b1_script.specs.Spelling.{IsScript, IsWhole}
 use Rattle.b1_serial.specs.Serial.{serial, memory}
@@ -37,20 +39,25 @@ pub record IsSerialRecord (s : Script) (r : Record) : Type 0 where
   pub legal : Legal s.opening r
   pub whole : Whole s.opening r
 
--- the script's turns, rounds and drain end in a state with this record, in which all commands have ended and nothing is
--- left to receive; the record's calls are the script's commands, resolved; and where the script is a small one and no
--- quota refuses a call, the record is the plain serial bus's
+-- the script's turns, rounds and drain end with this record; it is that of a state in which all commands have ended and
+-- nothing is left to receive; its calls are the script's commands, resolved; and where the script is a small one and no
+-- quota refuses a call, it is the plain serial bus's record
 pub record IsOutcome (s : Script) (r : Record) : Type 0 where
   pub play : IsPlay s.opening s.commands s.turns r
-  pub drained : DrainedOf s.commands play.state
+  pub state : State
+  pub record_is : r ≡ record_of_state state
+  pub drained : DrainedOf s.commands state
   pub script : follows.Script s.opening s.commands r
   pub small : IsSmall s → IsWithinQuotas r → IsSerialRecord s r
 
--- the script's turns and rounds stall in a state with this record, in which each of these peers, and no other, has
--- commands left, and waits; the record's calls are the first of the script's commands, resolved
+-- the script's turns and rounds stall with this record; it is that of a state in which these peers, and no others, have
+-- commands left, and each of them waits; its calls are the first of the script's commands, resolved
 pub record IsStop (s : Script) (waiting : List ℕ) (r : Record) : Type 0 where
   pub stall : IsStall s.opening s.commands s.turns waiting r
-  pub stuck : Stuck s.commands stall.state
+  pub state : State
+  pub record_is : r ≡ record_of_state state
+  pub waiting_is : waiting ≡ waiting_peers s.commands state
+  pub stuck : Stuck s.commands state
   pub script : (p : ℕ) → AllInPlace (follows.commands_of s.commands p) (calls_of r p)
 
 -- the input is a script, and the text is the report of what became of it
