@@ -1,10 +1,7 @@
 -- What an attempt that can't take its front leaves: nothing but what it removed before.
-use Rattle.std.proofs.Common.{zero, suc, ◌≡◌, ◌≢◌, ◌⊎◌, refl, sym, ap, ◌∙◌, arith, inl, inr, subst, ℕ, ◌+◌, ◌<◌, Bool, true, false, cond, ◌&&◌, not, List, [], ◌∷◌, length, drop, fold, Option, Some, None, Ok, Err, Result}
+use Rattle.std.proofs.Common.{zero, suc, ◌≡◌, ◌⊎◌, refl, sym, ap, ◌∙◌, arith, inl, inr, subst, ℕ, ◌<◌, Bool, true, false, List, [], ◌∷◌, length, drop, fold, Err}
 use Rattle.b1_model.specs.declared.naming.Key.{Key}
-use Rattle.b1_model.specs.declared.naming.NodeRef.{NodeRef}
 use Rattle.b1_model.specs.declared.answers.Front.{Front}
-use Rattle.b1_model.specs.declared.answers.Front.TheVariants.{Absent, Staged}
-use Rattle.b1_model.specs.declared.answers.Receipt.{Receipt}
 use Rattle.b1_model.specs.declared.entries.Entry.{Entry}
 use Rattle.b1_model.specs.MachineParts.{PeerPart, is_staged}
 use Rattle.b1_model.specs.MachineReceive.{discards, discarded, cleared, front_by, front_taken, received, received_part, has_dead}

@@ -1,5 +1,5 @@
 -- What drivers know of their dead lists, over a step of a state.
-use Rattle.std.proofs.Common.{◌≡◌, ◌≢◌, ◌⊎◌, refl, sym, ap, ◌∙◌, arith, inl, inr, subst, ℕ, ◌<◌, Bool, true, false, cond, List, [], ◌∷◌, slice_get, Option, Some, None}
+use Rattle.std.proofs.Common.{length, zero, suc, ◌≡◌, ◌≢◌, refl, sym, ap, ◌∙◌, arith, inl, inr, subst, ℕ, ◌<◌, Bool, true, false, cond, List, [], ◌∷◌, slice_get, Option, Some, None}
 use Rattle.std.proofs.lemmas.Bool.{cases_eq}
 use Rattle.b1_model.specs.declared.naming.Opening.{Opening}
 use Rattle.b1_model.specs.declared.commands.Command.{Command}
@@ -7,25 +7,33 @@ use Rattle.b1_model.specs.declared.events.Action.{Action}
 use Rattle.b1_model.specs.declared.events.Action.TheVariants as act
 use Rattle.b1_model.specs.declared.events.Doing.{Doing}
 use Rattle.b1_model.specs.declared.events.Phase.{Phase}
-use Rattle.b1_model.specs.declared.events.Phase.TheVariants.{Starting, Reaping}
+use Rattle.b1_model.specs.declared.events.Phase.TheVariants.{Reaping}
 use Rattle.b1_model.specs.MachineParts.{PeerPart, DriverPart, State}
 use Rattle.b1_model.specs.MachineDriver.{turn, next_action, peer_of}
-use Rattle.b1_model.specs.MachineTook.{is_waiting, turned, with_facts}
-use Rattle.b1_model.specs.MachineReceive.{has_dead}
+use Rattle.b1_model.specs.MachineTook.{turned, with_facts}
 use Rattle.b1_model.specs.MachineEvents.{happens}
 use Rattle.b1_model.specs.MachineStep.{Step, opening_state, wire_made}
 use Rattle.b1_model.specs.MachineTables.{with_made}
 use Rattle.b1_model.specs.Names.{is_own}
 use Rattle.b1_inv_tools.proofs.Openings.{opening_each, opening_idle}
-use Rattle.b1_step.specs.Fixed.{IsNumbered}
 use Rattle.b1_step.proofs.Changed.{changes}
 use Rattle.b1_shape.specs.Words.{IsPeer, IsDriver}
 use Rattle.b1_shape.specs.Sound.{IsSound}
 use Rattle.b1_inv_tools.proofs.Leaves.{Did, step_did, driver_cases, peer_cases, new_peer, same_peer}
-use Rattle.b1_inv_sends.proofs.SendsKept.{nothing_owed}
-use Rattle.b1_schedule.specs.Schedule.{removed_by}
 use Rattle.b1_course.specs.Course.{PhaseTold, OpenTold, AllTold}
 use Rattle.b1_course.proofs.Knows.{spares_dead, dead_same, next_knows}
+
+-- ---- what stands in a list
+
+pub peer_there : (xs : List PeerPart) (i : ℕ) → i < length xs → (x : PeerPart) × (slice_get xs i ≡ Some x)
+peer_there [] i below = absurd (omega (arith, below))
+peer_there (x ∷ rest) zero below = (x, refl)
+peer_there (x ∷ rest) (suc i) below = peer_there rest i (omega (arith, below))
+
+pub driver_there : (ds : List DriverPart) (i : ℕ) (d : DriverPart) → slice_get ds i ≡ Some d → i < length ds
+driver_there [] i d is = absurd (cc is)
+driver_there (e ∷ rest) zero d is = omega arith
+driver_there (e ∷ rest) (suc i) d is = omega (arith, driver_there rest i d is)
 
 -- an event at another peer leaves its dead list
 elsewhere_spares : (me : ℕ) (action : Action) → peer_of me action ≢ me → spares_dead action ≡ true
@@ -67,18 +75,19 @@ module _ {o : Opening} {s : State} {p : ℕ} {command : Option Command} {t : Sta
   module _ (x y : PeerPart) (is_x : IsPeer s p x) (is_y : IsPeer t p y) where
     held : PhaseTold k.e x k.doing.command k.doing.phase
     held = elim k.opened.from [
-        | inl is ↦ phase_told step.driver k.e x k.doing.command k.doing.phase k.opened.told k.opened.attempted (subst (OpenTold step.driver x) is (known p step.driver x step.is_driver is_x))
-        | inr begins ↦ subst (PhaseTold k.e x k.doing.command) (sym begins.2) (subst (OpenTold step.driver x) begins.0 (known p step.driver x step.is_driver is_x))
-      ]
+      | inl is ↦ phase_told step.driver k.e x k.doing.command k.doing.phase k.opened.told k.opened.attempted (subst (OpenTold step.driver x) is (known p step.driver x step.is_driver is_x))
+      | inr begins ↦ subst (PhaseTold k.e x k.doing.command) (sym begins.2) (subst (OpenTold step.driver x) begins.0 (known p step.driver x step.is_driver is_x))
+    ]
 
     at_by : (action : Action) → next_action k.e ≡ action → step.at ≡ peer_of k.e.me action
     at_by action is = at_is ∙ ap (peer_of k.e.me) (k.is_action ∙ is)
 
     own : (action : Action) → next_action k.e ≡ action → peer_of k.e.me action ≡ k.e.me → (y ≡ (happens o step.local.memory k.e k.doing action step.peer).1) × (x ≡ step.peer)
     own action is here =
-        let at_own = at_by action is ∙ here ∙ number in
-        (same_part t.peers p y step.new_peer is_y (ap (slice_get t.peers) (sym at_own) ∙ new_peer step) ∙ k.peer ∙ ap (λ a. (happens o step.local.memory k.e k.doing a step.peer).1) (k.is_action ∙ is),
-          same_part s.peers p x step.peer is_x (ap (slice_get s.peers) (sym at_own) ∙ step.is_peer))
+        let at_own = at_by action is ∙ here ∙ number in (
+          same_part t.peers p y step.new_peer is_y (ap (slice_get t.peers) (sym at_own) ∙ new_peer step) ∙ k.peer ∙ ap (λ a. (happens o step.local.memory k.e k.doing a step.peer).1) (k.is_action ∙ is),
+          same_part s.peers p x step.peer is_x (ap (slice_get s.peers) (sym at_own) ∙ step.is_peer),
+        )
 
     other : (action : Action) → next_action k.e ≡ action → peer_of k.e.me action ≢ k.e.me → y ≡ x
     other action is apart = same_part t.peers p y x is_y (same_peer step p x (λ same. apart (sym (at_by action is) ∙ sym same ∙ sym number)) is_x)
@@ -99,28 +108,28 @@ module _ {o : Opening} {s : State} {p : ℕ} {command : Option Command} {t : Sta
 
       dead : y.dead ≡ x.dead
       dead = elim (cases_eq r step.at) [
-          | inl here ↦ ap (λ z. z.dead) (same_part t.peers r y step.new_peer is_y (ap (slice_get t.peers) here ∙ new_peer step) ∙ k.peer)
-              ∙ dead_same step.action step.peer (happens o step.local.memory k.e k.doing step.action step.peer).1 (elsewhere_spares k.e.me step.action (away here)) (changes o step.local.memory k.e k.doing step.action step.peer)
-              ∙ ap (λ z. z.dead) (sym (same_part s.peers r x step.peer is_x (ap (slice_get s.peers) here ∙ step.is_peer)))
-          | inr elsewhere ↦ ap (λ z. z.dead) (same_part t.peers r y x is_y (same_peer step r x elsewhere is_x))
-        ]
+        | inl here ↦ ap (λ z. z.dead) (same_part t.peers r y step.new_peer is_y (ap (slice_get t.peers) here ∙ new_peer step) ∙ k.peer)
+            ∙ dead_same step.action step.peer (happens o step.local.memory k.e k.doing step.action step.peer).1 (elsewhere_spares k.e.me step.action (away here)) (changes o step.local.memory k.e k.doing step.action step.peer)
+            ∙ ap (λ z. z.dead) (sym (same_part s.peers r x step.peer is_x (ap (slice_get s.peers) here ∙ step.is_peer)))
+        | inr elsewhere ↦ ap (λ z. z.dead) (same_part t.peers r y x is_y (same_peer step r x elsewhere is_x))
+      ]
 
   -- a peer that is there afterwards was there
   pub was_peer : (q : ℕ) (y : PeerPart) → IsPeer t q y → (x : PeerPart) × IsPeer s q x
   was_peer q y is = elim (peer_cases step q y is) [
-      | inl here ↦ (step.peer, ap (slice_get s.peers) here.0 ∙ step.is_peer)
-      | inr elsewhere ↦ (y, elsewhere.1)
-    ]
+    | inl here ↦ (step.peer, ap (slice_get s.peers) here.0 ∙ step.is_peer)
+    | inr elsewhere ↦ (y, elsewhere.1)
+  ]
 
   pub told_kept : AllTold t
   told_kept r f y is_f is_y = elim (driver_cases step r f is_f) [
-      | inl here ↦
-          let was = was_peer p y (ap (slice_get t.peers) (sym here.0) ∙ is_y) in
-          subst (λ g. OpenTold g y g.doing) (sym here.1) (own_known was.0 y was.1 (ap (slice_get t.peers) (sym here.0) ∙ is_y))
-      | inr elsewhere ↦
-          let was = was_peer r y is_y in
-          other_known r f was.0 y elsewhere.0 elsewhere.1 was.1 is_y
-    ]
+    | inl here ↦
+        let was = was_peer p y (ap (slice_get t.peers) (sym here.0) ∙ is_y) in
+        subst (λ g. OpenTold g y g.doing) (sym here.1) (own_known was.0 y was.1 (ap (slice_get t.peers) (sym here.0) ∙ is_y))
+    | inr elsewhere ↦
+        let was = was_peer r y is_y in
+        other_known r f was.0 y elsewhere.0 elsewhere.1 was.1 is_y
+  ]
 
 -- ---- the opening
 

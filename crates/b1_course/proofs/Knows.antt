@@ -1,5 +1,5 @@
 -- Every step keeps what drivers know of their dead lists: the stepping driver and its own peer.
-use Rattle.std.proofs.Common.{◌≡◌, ◌≢◌, ◌⊎◌, refl, sym, ap, ◌∙◌, arith, inl, inr, subst, zero, suc, ℕ, ◌+◌, ◌<◌, Bool, true, false, cond, if◌then◌else◌, ◌&&◌, not, List, [], ◌∷◌, length, drop, Option, Some, None, Ok, Err, Result}
+use Rattle.std.proofs.Common.{◌≡◌, ◌≢◌, ◌⊎◌, refl, sym, ap, ◌∙◌, arith, inl, inr, subst, ℕ, ◌<◌, Bool, true, false, if◌then◌else◌, ◌&&◌, List, [], ◌∷◌, Option, Some, None, Ok, Err, Result}
 use Rattle.std.proofs.lemmas.Bool.{cases_eq}
 use Rattle.b1_model.specs.declared.naming.Opening.{Opening}
 use Rattle.b1_model.specs.declared.answers.Answer.{Answer}
@@ -22,18 +22,18 @@ use Rattle.b1_model.specs.declared.events.Outcome.TheVariants as out
 use Rattle.b1_model.specs.declared.events.OwedDrop.{OwedDrop}
 use Rattle.b1_model.specs.declared.events.Phase.{Phase}
 use Rattle.b1_model.specs.declared.events.Phase.TheVariants.{Starting, Staging, Unstaging, Attaching, Stamping, Syncing, Committing, Dropping, Reaping, Visiting, Dooming, SyncingNotices, CommittingOwn, CommittingNotices, Flushing}
-use Rattle.b1_model.specs.MachineParts.{PeerPart, DriverPart, State}
-use Rattle.b1_model.specs.MachineDriver.{Turn, Goes, Ends, turn, started, phase_action, next_action, first_action, send_of, peer_of, recv_answer, refused_at}
-use Rattle.b1_model.specs.MachineTook.{is_await, is_waiting, is_again, turned, with_facts, owed_after, told_after, attempt_of}
+use Rattle.b1_model.specs.MachineParts.{PeerPart, DriverPart}
+use Rattle.b1_model.specs.MachineDriver.{Turn, Goes, turn, phase_action, next_action, first_action, send_of, peer_of, recv_answer, refused_at}
+use Rattle.b1_model.specs.MachineTook.{is_await, is_waiting, is_again, turned, with_facts}
 use Rattle.b1_model.specs.MachineEvents.{number_of, begin_by, destroy_by, begin_refusal, begin_serials, happens, limits_after}
-use Rattle.b1_model.specs.MachineReceive.{discards, received, received_part, has_dead, reaped_part, reaped, released}
+use Rattle.b1_model.specs.MachineReceive.{received, received_part, has_dead, reaped_part, reaped, released}
 use Rattle.b1_model.specs.MachineDestroy.{flushed}
 use Rattle.b1_step.specs.Rights.{Changes}
 use Rattle.b1_step.proofs.Changed.{changes}
 use Rattle.b1_inv_sends.proofs.Events.{next_of, next_owed}
 use Rattle.b1_schedule.specs.Schedule.{removed_by}
 use Rattle.b1_course.specs.Course.{PhaseTold, OpenTold}
-use Rattle.b1_course.proofs.Told.{Spares, IsPlain, spared_told, reaping_told, turn_spares}
+use Rattle.b1_course.proofs.Told.{IsPlain, spared_told, reaping_told, turn_spares}
 use Rattle.b1_course.proofs.Attempts.{removed_some}
 
 -- events that leave the dead list
@@ -94,7 +94,6 @@ module _ (e : DriverPart) (doing : Doing) where
 module _ (o : Opening) (memory : Bool) (e : DriverPart) (doing : Doing) (x before after : PeerPart)
     (own : (action : Action) → next_action e ≡ action → peer_of e.me action ≡ e.me → (after ≡ (happens o memory e doing action x).1) × (before ≡ x))
     (other : (action : Action) → next_action e ≡ action → peer_of e.me action ≢ e.me → after ≡ before) where
-
   abbrev Knows : Action → Type 0
   Knows action = OpenTold (turned (with_facts e doing (happens o memory e doing action x).0) doing.command (turn e.me doing.command doing.phase (happens o memory e doing action x).0)) after
       (turned (with_facts e doing (happens o memory e doing action x).0) doing.command (turn e.me doing.command doing.phase (happens o memory e doing action x).0)).doing
@@ -102,9 +101,9 @@ module _ (o : Opening) (memory : Bool) (e : DriverPart) (doing : Doing) (x befor
   -- the dead list stays
   stays : (action : Action) → next_action e ≡ action → spares_dead action ≡ true → after.dead ≡ before.dead
   stays action is spares = elim (cases_eq (peer_of e.me action) e.me) [
-      | inl here ↦ ap (λ z. z.dead) (own action is here).0 ∙ dead_same action x (happens o memory e doing action x).1 spares (changes o memory e doing action x) ∙ ap (λ z. z.dead) (sym (own action is here).1)
-      | inr apart ↦ ap (λ z. z.dead) (other action is apart)
-    ]
+    | inl here ↦ ap (λ z. z.dead) (own action is here).0 ∙ dead_same action x (happens o memory e doing action x).1 spares (changes o memory e doing action x) ∙ ap (λ z. z.dead) (sym (own action is here).1)
+    | inr apart ↦ ap (λ z. z.dead) (other action is apart)
+  ]
 
   -- an event that doesn't give up, of a command that doesn't either
   plain_knows : (action : Action) → next_action e ≡ action → spares_dead action ≡ true → before.dead ≡ [] → IsPlain doing.phase (happens o memory e doing action x).0 → Knows action
@@ -123,7 +122,7 @@ module _ (o : Opening) (memory : Bool) (e : DriverPart) (doing : Doing) (x befor
   recv_knows : next_action e ≡ act.Recv → doing.phase ≡ Starting → before.dead ≡ [] → e.owed ≡ [] → Knows act.Recv
   recv_knows is starts none owes_none =
       by_turn outcome (Goes (Reaping (recv_answer (received x)))) (ap (λ phase. turn e.me doing.command phase outcome) starts)
-        (reaping_told (with_facts e doing outcome) after doing.command (recv_answer (received x)) (ap has_dead (sym mine.0)) removed)
+      (reaping_told (with_facts e doing outcome) after doing.command (recv_answer (received x)) (ap has_dead (sym mine.0)) removed)
     where
       outcome : Outcome
       outcome = out.Recv (received x) (has_dead (received_part x))
@@ -138,8 +137,11 @@ module _ (o : Opening) (memory : Bool) (e : DriverPart) (doing : Doing) (x befor
           never true is = cc is
           never false is = cc is
       by_front (Err f) same waits told =
-          omega (arith, attempt_removed e doing (received x) (has_dead (received_part x)) f (waits_await doing.command (refused_at (reason.Again f) None) waits) (sym same),
-            removed_some x f (sym same) (ap (λ z. z.dead) (sym mine.1) ∙ none) told)
+          omega (
+            arith,
+            attempt_removed e doing (received x) (has_dead (received_part x)) f (waits_await doing.command (refused_at (reason.Again f) None) waits) (sym same),
+            removed_some x f (sym same) (ap (λ z. z.dead) (sym mine.1) ∙ none) told,
+          )
 
       removed : is_waiting doing.command (recv_answer (received x)) ≡ true → (has_dead (received_part x) ≡ true) ⊎ (e.owed ≢ []) → 0 < removed_by (with_facts e doing (out.Recv (received x) (has_dead (received_part x))))
       removed waits (inl told) = by_front (received x).front refl waits told
@@ -148,12 +150,12 @@ module _ (o : Opening) (memory : Bool) (e : DriverPart) (doing : Doing) (x befor
   reap_knows : (got : Answer) → next_action e ≡ act.Reap → doing.phase ≡ Reaping got → (is_waiting doing.command got ≡ true → 0 < removed_by e) → Knows act.Reap
   reap_knows got is phase removed =
       by_turn (out.Reap (reaped x) (has_dead (reaped_part x))) (Goes (Reaping got)) (ap (λ ph. turn e.me doing.command ph (out.Reap (reaped x) (has_dead (reaped_part x)))) phase)
-        (reaping_told (with_facts e doing (out.Reap (reaped x) (has_dead (reaped_part x)))) after doing.command got (ap has_dead (sym (own act.Reap is refl).0)) (λ waits more. removed waits))
+      (reaping_told (with_facts e doing (out.Reap (reaped x) (has_dead (reaped_part x)))) after doing.command got (ap has_dead (sym (own act.Reap is refl).0)) (λ waits more. removed waits))
 
   flush_knows : (stamp : Option ℕ) → next_action e ≡ act.Flush → doing.phase ≡ Flushing stamp → Knows act.Flush
   flush_knows stamp is phase =
       by_turn (out.Flush (has_dead (flushed x (limits_after doing.command x.limits)))) (Goes (Reaping (answer.Reset stamp))) (ap (λ ph. turn e.me doing.command ph (out.Flush (has_dead (flushed x (limits_after doing.command x.limits))))) phase)
-        (reaping_told (with_facts e doing (out.Flush (has_dead (flushed x (limits_after doing.command x.limits))))) after doing.command (answer.Reset stamp) (ap has_dead (sym (own act.Flush is refl).0)) (λ waits more. absurd (never (is_await doing.command) waits)))
+      (reaping_told (with_facts e doing (out.Flush (has_dead (flushed x (limits_after doing.command x.limits))))) after doing.command (answer.Reset stamp) (ap has_dead (sym (own act.Flush is refl).0)) (λ waits more. absurd (never (is_await doing.command) waits)))
     where
       never : (b : Bool) → (b && false) ≡ true → ⊥
       never true is = cc is
@@ -162,7 +164,7 @@ module _ (o : Opening) (memory : Bool) (e : DriverPart) (doing : Doing) (x befor
   drop_knows : (got : Answer) (one : OwedDrop) → next_action e ≡ act.DropRefs one.node.owner one.node.serial one.holder one.amount one.clock → doing.phase ≡ Reaping got → e.told ≡ has_dead before → (is_waiting doing.command got ≡ true → 0 < removed_by e) → Knows (act.DropRefs one.node.owner one.node.serial one.holder one.amount one.clock)
   drop_knows got one is phase told removed =
       by_turn out.DropRefs (Goes (Reaping got)) (ap (λ ph. turn e.me doing.command ph out.DropRefs) phase)
-        (reaping_told (with_facts e doing out.DropRefs) after doing.command got (told ∙ ap {B = Bool} (λ dead. elim dead [ [] ↦ false | item ∷ rest ↦ true ]) (sym (stays (act.DropRefs one.node.owner one.node.serial one.holder one.amount one.clock) is refl))) (λ waits more. removed waits))
+      (reaping_told (with_facts e doing out.DropRefs) after doing.command got (told ∙ ap {B = Bool} (λ dead. elim dead [ [] ↦ false | item ∷ rest ↦ true ]) (sym (stays (act.DropRefs one.node.owner one.node.serial one.holder one.amount one.clock) is refl))) (λ waits more. removed waits))
 
   -- an event of a phase that doesn't give up
   plain_at : (phase : Phase) (action : Action) → doing.phase ≡ phase → next_action e ≡ action → spares_dead action ≡ true → before.dead ≡ [] → IsPlain phase (happens o memory e doing action x).0 → Knows action

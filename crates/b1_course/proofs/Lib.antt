@@ -6,3 +6,7 @@ pub mod Waits
 pub mod Waited
 pub mod Unmoved
 pub mod Rounds
+pub mod Moves
+pub mod Owners
+pub mod Plays
+pub mod Ends

@@ -1,21 +1,17 @@
 -- A step of a state that ends a waiting attempt which removed nothing: nothing has moved but the driver's count of attempts.
-use Rattle.std.proofs.Common.{◌≡◌, ◌≢◌, ◌⊎◌, refl, sym, ap, ◌∙◌, arith, inl, inr, subst, ℕ, ◌<◌, ◌≤◌, Bool, true, false, cond, List, [], ◌∷◌, ◌++◌, length, slice_get, Option, Some, None, append-nil}
+use Rattle.std.proofs.Common.{◌≡◌, ◌⊎◌, refl, sym, ap, ◌∙◌, arith, inl, inr, subst, ℕ, ◌<◌, ◌≤◌, Bool, true, false, cond, [], ◌∷◌, ◌++◌, length, Option, Some, None, append-nil}
 use Rattle.b1_model.specs.declared.naming.Opening.{Opening}
 use Rattle.b1_model.specs.declared.answers.Answer.{Answer}
 use Rattle.b1_model.specs.declared.commands.Command.{Command}
 use Rattle.b1_model.specs.declared.commands.Command.TheVariants as cmd
-use Rattle.b1_model.specs.declared.events.Action.{Action}
-use Rattle.b1_model.specs.declared.events.Action.TheVariants as act
-use Rattle.b1_model.specs.declared.events.Doing.{Doing}
 use Rattle.b1_model.specs.declared.events.Phase.{Phase}
 use Rattle.b1_model.specs.declared.events.Phase.TheVariants.{Starting, Reaping}
 use Rattle.b1_model.specs.MachineParts.{PeerPart, DriverPart, State}
 use Rattle.b1_model.specs.MachineDriver.{Turn, Goes, Ends, turn, next_action, peer_of}
 use Rattle.b1_model.specs.MachineTook.{is_waiting, as_call, answer_of, is_done, goes_by, ended, turned, with_facts}
-use Rattle.b1_model.specs.MachineReceive.{received_part}
 use Rattle.b1_model.specs.MachineEvents.{happens}
 use Rattle.b1_model.specs.MachineStep.{Step}
-use Rattle.b1_shape.specs.Words.{IsPeer, IsDriver}
+use Rattle.b1_shape.specs.Words.{IsPeer}
 use Rattle.b1_shape.specs.Sends.{SendShape}
 use Rattle.b1_shape.specs.Notices.{DestructionShape}
 use Rattle.b1_shape.specs.Sound.{IsSound}
@@ -81,39 +77,39 @@ module _ {o : Opening} {s : State} {p : ℕ} {command : Option Command} {t : Sta
 
   send_shape : (k.doing.phase ≡ Starting) ⊎ SendShape s k.doing.command k.doing.phase
   send_shape = elim k.opened.from [
-      | inl is ↦ inr (sound.sends.shape p step.driver k.doing step.is_driver is)
-      | inr begins ↦ inl begins.2
-    ]
+    | inl is ↦ inr (sound.sends.shape p step.driver k.doing step.is_driver is)
+    | inr begins ↦ inl begins.2
+  ]
 
   destruction : DestructionShape x.peers x k.doing.command k.doing.phase
   destruction = elim k.opened.from [
-      | inl is ↦ sound.notices.shape p step.driver x k.doing step.is_driver is_x is
-      | inr begins ↦ subst (DestructionShape x.peers x k.doing.command) (sym begins.2) tt
-    ]
+    | inl is ↦ sound.notices.shape p step.driver x k.doing step.is_driver is_x is
+    | inr begins ↦ subst (DestructionShape x.peers x k.doing.command) (sym begins.2) tt
+  ]
 
   owes : k.doing.phase ≡ Starting → k.e.owed ≡ []
   owes starts = elim k.opened.from [
-      | inl is ↦ absurd (subst (SendShape s k.doing.command) starts (sound.sends.shape p step.driver k.doing step.is_driver is))
-      | inr begins ↦ k.opened.owed ∙ nothing_owed s p step.driver sound.references step.is_driver begins.0
-    ]
+    | inl is ↦ absurd (subst (SendShape s k.doing.command) starts (sound.sends.shape p step.driver k.doing step.is_driver is))
+    | inr begins ↦ k.opened.owed ∙ nothing_owed s p step.driver sound.references step.is_driver begins.0
+  ]
 
   held : (got : Answer) → k.doing.phase ≡ Reaping got → is_waiting k.doing.command got ≡ true → 0 < removed_by k.e
   held got is waits = elim k.opened.from [
-      | inl at ↦ (subst (PhaseTold k.e x k.doing.command) is (phase_told step.driver k.e x k.doing.command k.doing.phase k.opened.told k.opened.attempted (subst (OpenTold step.driver x) at (known p step.driver x step.is_driver is_x)))).1 waits
-      | inr begins ↦ absurd (cc (begins.2, is))
-    ]
+    | inl at ↦ (subst (PhaseTold k.e x k.doing.command) is (phase_told step.driver k.e x k.doing.command k.doing.phase k.opened.told k.opened.attempted (subst (OpenTold step.driver x) at (known p step.driver x step.is_driver is_x)))).1 waits
+    | inr begins ↦ absurd (cc (begins.2, is))
+  ]
 
   attempt : Attempt o step.local.memory k.e k.doing step.peer
   attempt = elim (waited o step.local.memory k.e k.doing step.peer k.opened.is_open owes held k.doing.phase refl (attempt_phase s x.peers x k.doing.command k.doing.phase (waits_await k.doing.command how.0 how.2) send_shape destruction) how.0 (waits_await k.doing.command how.0 how.2) how.1 how.2) [
-      | inl first ↦ first
-      | inr more ↦ absurd (omega (arith, more, none_removed))
-    ]
+    | inl first ↦ first
+    | inr more ↦ absurd (omega (arith, more, none_removed))
+  ]
 
   closed_with : (step.driver.doing ≡ None) × (command ≡ Some k.doing.command) × (k.doing.phase ≡ Starting)
   closed_with = elim k.opened.from [
-      | inl is ↦ absurd (subst (SendShape s k.doing.command) attempt.starts (sound.sends.shape p step.driver k.doing step.is_driver is))
-      | inr begins ↦ begins
-    ]
+    | inl is ↦ absurd (subst (SendShape s k.doing.command) attempt.starts (sound.sends.shape p step.driver k.doing step.is_driver is))
+    | inr begins ↦ begins
+  ]
 
   pub unmoved : Unmoved step
   unmoved = record {

@@ -1,5 +1,5 @@
 -- An attempt that waits: it began with this step and its peer's part is what RECV leaves, or it removed something before.
-use Rattle.std.proofs.Common.{◌≡◌, ◌≢◌, ◌⊎◌, refl, sym, ap, ◌∙◌, arith, inl, inr, subst, ℕ, ◌+◌, ◌<◌, ◌≤◌, Bool, true, false, cond, if◌then◌else◌, ◌&&◌, List, [], ◌∷◌, length, Option, Some, None, Ok, Err, Result}
+use Rattle.std.proofs.Common.{◌≡◌, ◌⊎◌, refl, sym, ap, ◌∙◌, arith, inl, inr, subst, ℕ, ◌<◌, Bool, true, false, if◌then◌else◌, ◌&&◌, List, [], ◌∷◌, length, Option, Some, None, Ok, Err, Result}
 use Rattle.b1_model.specs.declared.naming.Opening.{Opening}
 use Rattle.b1_model.specs.declared.answers.Answer.{Answer}
 use Rattle.b1_model.specs.declared.answers.Answer.TheVariants as answer
@@ -16,9 +16,9 @@ use Rattle.b1_model.specs.declared.events.Outcome.TheVariants as out
 use Rattle.b1_model.specs.declared.events.OwedDrop.{OwedDrop}
 use Rattle.b1_model.specs.declared.events.Phase.{Phase}
 use Rattle.b1_model.specs.declared.events.Phase.TheVariants.{Starting, Dropping, Reaping, Flushing}
-use Rattle.b1_model.specs.MachineParts.{PeerPart, DriverPart, State}
-use Rattle.b1_model.specs.MachineDriver.{Turn, Goes, Ends, turn, first_action, phase_action, next_action, peer_of, recv_answer, refused_at}
-use Rattle.b1_model.specs.MachineTook.{attempt_of, is_await, is_again, is_waiting, turned, with_facts}
+use Rattle.b1_model.specs.MachineParts.{PeerPart, DriverPart}
+use Rattle.b1_model.specs.MachineDriver.{turn, first_action, phase_action, next_action, recv_answer, refused_at}
+use Rattle.b1_model.specs.MachineTook.{attempt_of, is_await, is_waiting, with_facts}
 use Rattle.b1_model.specs.MachineEvents.{happens, local_answer}
 use Rattle.b1_model.specs.MachineReceive.{discards, received, received_part, has_dead}
 use Rattle.b1_inv_sends.proofs.Events.{next_of, next_owed}

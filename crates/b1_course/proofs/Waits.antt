@@ -1,32 +1,22 @@
 -- A step that ends an attempt which waits, and removed nothing: the command began with this step, and the peer's part stays.
-use Rattle.std.proofs.Common.{◌≡◌, ◌≢◌, ◌⊎◌, refl, sym, ap, ◌∙◌, arith, inl, inr, subst, zero, suc, ℕ, ◌+◌, ◌<◌, ◌≤◌, Bool, true, false, cond, ◌&&◌, not, nat_lt, List, [], ◌∷◌, ◌++◌, length, Option, Some, None, Ok, Err, Result, append-nil}
-use Rattle.b1_model.specs.declared.naming.Opening.{Opening}
+use Rattle.std.proofs.Common.{◌≡◌, ◌⊎◌, refl, sym, ap, arith, inl, inr, ℕ, ◌+◌, ◌≤◌, Bool, true, false, cond, List, [], ◌∷◌, ◌++◌, length, Option, Some, None}
 use Rattle.b1_model.specs.declared.answers.Answer.{Answer}
-use Rattle.b1_model.specs.declared.answers.Answer.TheVariants as answer
-use Rattle.b1_model.specs.declared.answers.Front.{Front}
-use Rattle.b1_model.specs.declared.answers.Reason.TheVariants as reason
-use Rattle.b1_model.specs.declared.answers.Receipt.{Receipt}
-use Rattle.b1_model.specs.declared.answers.Refused.{Refused}
 use Rattle.b1_model.specs.declared.commands.Command.{Command}
 use Rattle.b1_model.specs.declared.commands.Command.TheVariants as cmd
 use Rattle.b1_model.specs.declared.records.Call.{Call}
-use Rattle.b1_model.specs.declared.events.Action.TheVariants as act
-use Rattle.b1_model.specs.declared.events.Doing.{Doing}
-use Rattle.b1_model.specs.declared.events.Outcome.{Outcome}
-use Rattle.b1_model.specs.declared.events.Outcome.TheVariants as out
 use Rattle.b1_model.specs.declared.events.OwedDrop.{OwedDrop}
 use Rattle.b1_model.specs.declared.events.Phase.{Phase}
 use Rattle.b1_model.specs.declared.events.Phase.TheVariants.{Starting, Staging, Unstaging, Attaching, Stamping, Syncing, Committing, Dropping, Reaping, Visiting, Dooming, SyncingNotices, CommittingOwn, CommittingNotices, Flushing}
 use Rattle.b1_model.specs.MachineParts.{PeerPart, DriverPart, State}
-use Rattle.b1_model.specs.MachineDriver.{Turn, Goes, Ends, turn, send_of}
-use Rattle.b1_model.specs.MachineTook.{is_await, is_again, is_waiting, as_call, call_of, answer_of, is_done, goes_by, ended, turned}
+use Rattle.b1_model.specs.MachineDriver.{Turn, Goes, Ends, send_of}
+use Rattle.b1_model.specs.MachineTook.{is_await, is_waiting, as_call, answer_of, is_done, goes_by, ended, turned}
 use Rattle.b1_shape.specs.Sends.{SendShape}
 use Rattle.std.specs.Prelude.{⊤}
 use Rattle.b1_shape.specs.Notices.{IsDestroying, DestructionShape}
 
 -- ---- an ended command without a call
 
-length_more : (calls : List Call) (c : Call) → length (calls ++ c ∷ []) ≡ length calls + 1
+pub length_more : (calls : List Call) (c : Call) → length (calls ++ c ∷ []) ≡ length calls + 1
 length_more [] c = refl
 length_more (x ∷ rest) c = omega (arith, length_more rest c)
 

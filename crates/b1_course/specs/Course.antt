@@ -1,15 +1,17 @@
 -- What holds while a schedule goes on: of drivers and their dead lists, and of the peers that a round or a pass has come by.
-use Rattle.std.specs.Prelude.{◌≡◌, ◌≢◌, ◌<◌, ◌⊎◌, ⊤, ℕ, Bool, true, false, List, [], ◌∷◌, Option, Some, None}
+use Rattle.std.specs.Prelude.{length, ◌≡◌, ◌≢◌, ◌<◌, ◌⊎◌, ⊤, ℕ, Bool, true, false, List, [], ◌∷◌, Option, Some, None}
 use Rattle.b1_model.specs.declared.naming.Key.{Key}
 use Rattle.b1_model.specs.declared.commands.Command.{Command}
 use Rattle.b1_model.specs.declared.commands.Command.TheVariants as cmd
 use Rattle.b1_model.specs.declared.entries.Entry.{Entry}
+use Rattle.b1_model.specs.declared.entries.Entry.TheVariants.{ForeignNotice}
+use Rattle.b1_step.specs.Rights.{Has}
 use Rattle.b1_model.specs.declared.events.Doing.{Doing}
 use Rattle.b1_model.specs.declared.events.Phase.{Phase}
 use Rattle.b1_model.specs.declared.events.Phase.TheVariants.{Reaping}
 use Rattle.b1_model.specs.MachineParts.{PeerPart, DriverPart, State, is_staged}
 use Rattle.b1_model.specs.MachineReceive.{has_dead}
-use Rattle.b1_model.specs.MachineTook.{is_waiting}
+use Rattle.b1_model.specs.MachineTook.{is_waiting, is_await}
 use Rattle.b1_model.specs.MachineOrder.{next_command}
 use Rattle.b1_shape.specs.Words.{IsPeer, IsDriver}
 use Rattle.b1_schedule.specs.Schedule.{Stage, Turning, Round, Draining, Finished, Stalled, removed_by}
@@ -53,6 +55,15 @@ IsEmptied d x = (d.shut ≡ true) ⊎ IsBlocked x
 abbrev pub AllBefore : State → ℕ → (ℕ → DriverPart → PeerPart → Type 0) → Type 0
 AllBefore s p P = (r : ℕ) (d : DriverPart) (x : PeerPart) → r < p → IsDriver s r d → IsPeer s r x → P r d x
 
+-- a driver of the drain rests, or its open command is an attempt of a driver that hasn't disconnected
+abbrev pub TryingBy : Bool → Option Doing → Type 0
+TryingBy shut None = ⊤
+TryingBy shut (Some doing) = (shut ≡ false) × (is_await doing.command ≡ true)
+
+-- the same of a driver's part
+abbrev pub IsTrying : DriverPart → Type 0
+IsTrying d = TryingBy d.shut d.doing
+
 -- all commands have ended
 abbrev pub AllEnded : List (List Command) → State → Type 0
 AllEnded lists s = (p : ℕ) (d : DriverPart) → IsDriver s p d → next_command lists p d ≡ None
@@ -61,6 +72,15 @@ AllEnded lists s = (p : ℕ) (d : DriverPart) → IsDriver s p d → next_comman
 abbrev pub HoldsAt : List (List Command) → State → Stage → Type 0
 HoldsAt lists s (Turning turns) = ⊤
 HoldsAt lists s (Round p gained) = ((r : ℕ) → r < p → IsIdle s r) × (gained ≡ false → IsIdle s p → AllBefore s p (IsWaiting lists))
-HoldsAt lists s (Draining p gained) = AllEnded lists s × ((r : ℕ) → r ≢ p → IsIdle s r) × (gained ≡ false → IsIdle s p → AllBefore s p (λ r. IsEmptied))
+HoldsAt lists s (Draining p gained) = AllEnded lists s × ((r : ℕ) → r ≢ p → IsIdle s r) × ((d : DriverPart) → IsDriver s p d → IsTrying d) × (gained ≡ false → IsIdle s p → AllBefore s p (λ r. IsEmptied))
 HoldsAt lists s Finished = AllEnded lists s × ((r : ℕ) → IsIdle s r) × ((r : ℕ) (d : DriverPart) (x : PeerPart) → IsDriver s r d → IsPeer s r x → IsEmptied d x)
 HoldsAt lists s Stalled = ((r : ℕ) → IsIdle s r) × ((r : ℕ) (d : DriverPart) (x : PeerPart) → IsDriver s r d → IsPeer s r x → IsWaiting lists r d x) × ((p : ℕ) × (d : DriverPart) × IsDriver s p d × (next_command lists p d ≢ None))
+
+-- the node of a foreign notice has an owner among so many peers
+abbrev pub HasOwner : ℕ → Entry → Type 0
+HasOwner peers (ForeignNotice node index) = node.owner < peers
+HasOwner peers e = ⊤
+
+-- the same of every queue
+abbrev pub OwnersThere : State → Type 0
+OwnersThere s = (q : ℕ) (x : PeerPart) (f : Key × Entry) → IsPeer s q x → Has x.queue f → HasOwner (length s.drivers) f.1

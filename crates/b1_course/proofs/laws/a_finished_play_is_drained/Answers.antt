@@ -1,4 +1,6 @@
+use Rattle.b1_schedule.specs.Shortage.{shortage_of}
+use Rattle.b1_course.proofs.Ends.{finished_drained}
 use Rattle.b1_course.proofs.laws.a_finished_play_is_drained.Goals as goal
 
 pub returns : goal.returns
-returns c = λ bottom. absurd bottom
+returns c = λ o lists turns r valid play. (play.state, play.record_is, finished_drained lists o valid (shortage_of r) turns play.state play.comes)
