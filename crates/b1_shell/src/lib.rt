@@ -9,7 +9,7 @@ mod lines;
 mod tests;
 mod texts;
 
-ghost use Rattle.std.specs.Prelude.{◌≡◌, ◌<◌, ◌≤◌, ◌⊎◌, [], ◌∷◌, Some, map, length, string_bytes, IfOk, IfErr, IfSome, Contains};
+ghost use Rattle.std.specs.Prelude.{◌≡◌, ◌<◌, ◌≤◌, ◌⊎◌, [], Some, map, length, string_bytes, IfOk, IfErr, IfSome};
 ghost use Rattle.b1_io.specs.Streams.{Rose, Took, TookSuch};
 ghost use Rattle.b1_shell.specs.Answers.{IsDone, IsRefused, IsStopped, IsBroken, IsSaid, Says, TookText, TookPart, status};
 ghost use Rattle.b1_shell.specs.Forms.{AsksFor, AsksNothing, most_input as most};
@@ -112,7 +112,7 @@ pub fn quiet<S: Source, K: Sink>(
     source: &mut S,
     sink: &mut K,
 ) -> u8
-    ensures known { Contains (0 ∷ 1 ∷ 2 ∷ 3 ∷ 4 ∷ 5 ∷ 6 ∷ 7 ∷ []) result }
+    ensures known { result ≤ 7 }
     // With other words, the usage line.
     ensures usage { result ≡ 1 → AsksNothing (map string_bytes words.now) }
     ensures usage_only { AsksNothing (map string_bytes words.now) → (result ≡ 1) ⊎ (result ≡ 5) }
@@ -161,7 +161,7 @@ pub fn quiet<S: Source, K: Sink>(
 
 /// All that the program does: so far, what `quiet` does.
 pub fn top<S: Source, K: Sink>(alloc: Global, words: &[String], source: &mut S, sink: &mut K) -> u8
-    ensures known { Contains (0 ∷ 1 ∷ 2 ∷ 3 ∷ 4 ∷ 5 ∷ 6 ∷ 7 ∷ []) result }
+    ensures known { result ≤ 7 }
     // With other words, the usage line.
     ensures usage { result ≡ 1 → AsksNothing (map string_bytes words.now) }
     ensures usage_only { AsksNothing (map string_bytes words.now) → (result ≡ 1) ⊎ (result ≡ 5) }

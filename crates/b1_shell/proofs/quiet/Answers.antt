@@ -3,9 +3,6 @@ use Rattle.b1_io.specs.Streams.{TookSuch}
 use Rattle.b1_shell.proofs.Lemmas.{took_part}
 use Rattle.b1_shell.proofs.quiet.Goals as goal
 
-pub returns-in-Err-clause-known : goal.returns-in-Err-clause-known
-returns-in-Err-clause-known g c = (4, omega arith, refl)
-
 pub returns-in-Err-clause-usage_part : goal.returns-in-Err-clause-usage_part
 returns-in-Err-clause-usage_part g c = λ _ _.
     subst (λ (text : List ℕ). TookSuch (g.K.Sink.taken c.args.sink.now) (g.K.Sink.taken c.write_all.new.sink) text (λ n. n < length text)) c.as_bytes.ensures.value c.in-Err.ensures.prefix

@@ -9,7 +9,7 @@ returns c =
       begun = λ waiting r stall. c.what_is_played_is_scripted.ensures.stalled _ _ _ waiting r c.requires.opening (λ s reached. sound _ s c.requires.opening reached) stall;
       drained = λ r play. c.a_finished_play_is_drained.ensures _ _ _ r c.requires.opening play;
       stuck = λ waiting r stall. c.a_stalled_play_is_stuck.ensures _ _ _ waiting r c.requires.opening stall;
-      serially = λ r playable within play. c.small_scripts_run_serially.ensures ? _ _ r playable within play;
+      serially = λ r playable within play. c.small_scripts_run_serially.ensures _ _ r playable within play;
       legal = λ m playable. c.every_serial_record_is_legal.ensures.legal _ _ m playable;
       whole = λ m playable. c.every_serial_record_is_legal.ensures.whole _ _ m playable;
     }) c.play.result c.play.ensures
