@@ -1,10 +1,9 @@
 //! The play of a script: its turns, its rounds and its drain, over a bus on one thread.
 #![tactic(auto)]
 
-ghost use Rattle.std.specs.Prelude.{◌≡◌, ◌<◌, length, IfOk};
-ghost use Rattle.std.specs.List.{AllByRecursion};
+ghost use Rattle.std.specs.Prelude.{◌≡◌, ◌<◌, length, IfOk, All};
 ghost use Rattle.b1_model.specs.Opening.{IsOpening};
-ghost use Rattle.b1_player.specs.Played.{IsPlayed};
+ghost use Rattle.b1_player.specs.Plays.{PlaysScript};
 
 use b1_model::{Nums32, Record};
 use b1_script::Script;
@@ -28,8 +27,8 @@ pub enum Played {
 pub fn play(alloc: Global, script: &Script) -> Result<Played, AllocError>
     requires opening { IsOpening script.now.opening }
     requires lists { length script.now.commands ≡ length script.now.opening.peers }
-    requires turns { AllByRecursion (λ p. p < length script.now.opening.peers) script.now.turns }
-    ensures { IfOk result (λ played. IsPlayed script.now played) }
+    requires turns { All (λ p. p < length script.now.opening.peers) script.now.turns }
+    ensures { IfOk result (λ played. PlaysScript script.now played) }
 {
     let _ = alloc;
     let _ = script;

@@ -11,7 +11,7 @@ use Rattle.b1_io.specs.Streams.{TookSuch}
 use Rattle.b1_io.specs.Whole.{OnLong}
 use Rattle.b1_report.specs.Parsing as reports
 use Rattle.b1_script.specs.declared.script.Script.{Script}
-use Rattle.b1_script.specs.Reading.{bad, whole_at, script_at, to_the_end}
+use Rattle.b1_script.specs.Reading.{bad, whole_at}
 use Rattle.b1_script.specs.Spelling.{most_script, IsScript}
 use Rattle.b1_shell.specs.declared.Said.{Said}
 use Rattle.b1_shell.specs.declared.Said.TheVariants.{Bad}

@@ -20,9 +20,8 @@ use Rattle.b1_schedule.specs.Schedule.{IsPlay, IsStall, waiting_peers}
 use Rattle.b1_script.specs.declared.script.Script.{Script}
 use Rattle.b1_script.specs.Spelling.{IsScript, IsWhole}
 use Rattle.b1_serial.specs.Serial.{serial, memory}
-use Rattle.b1_small.specs.Quotas.{IsWithinQuotas}
+use Rattle.b1_small.specs.Quotas.{MeetsNoQuota}
 use Rattle.b1_text.specs.Accepted.{IsText}
-use Rattle.b1_text.specs.Texts.{script_text}
 use Rattle.b1_shell.specs.declared.Said.{Said}
 use Rattle.b1_shell.specs.declared.Said.TheVariants.{Done, Bad, Stalled, Broken}
 use Rattle.b1_shell.specs.declared.forms.Form.{Form}
@@ -40,15 +39,15 @@ pub record IsSerialRecord (s : Script) (r : Record) : Type 0 where
   pub whole : Whole s.opening r
 
 -- the script's turns, rounds and drain end with this record; it is that of a state in which all commands have ended and
--- nothing is left to receive; its calls are the script's commands, resolved; and where the script is a small one and no
--- quota refuses a call, it is the plain serial bus's record
+-- nothing is left to receive; its calls are the script's commands, resolved; and where the script is a small one that
+-- no quota refuses, it is the plain serial bus's record
 pub record IsOutcome (s : Script) (r : Record) : Type 0 where
   pub play : IsPlay s.opening s.commands s.turns r
   pub state : State
   pub record_is : r ≡ record_of_state state
   pub drained : DrainedOf s.commands state
   pub script : follows.Script s.opening s.commands r
-  pub small : IsSmall s → IsWithinQuotas r → IsSerialRecord s r
+  pub small : IsSmall s → MeetsNoQuota s.opening s.commands r → IsSerialRecord s r
 
 -- the script's turns and rounds stall with this record; it is that of a state in which these peers, and no others, have
 -- commands left, and each of them waits; its calls are the first of the script's commands, resolved

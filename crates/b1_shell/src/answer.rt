@@ -19,8 +19,7 @@ use b1_model::{Nums32, Record};
 use b1_player::{Played, play};
 use b1_report::print;
 use b1_script::{Script, read_whole};
-use b1_serial::every_serial_record_is_legal;
-use b1_small::small_scripts_run_serially;
+use b1_small::{small_records_are_legal, small_scripts_run_serially};
 use std::alloc::{AllocError, Global};
 
 /// What becomes of a script. An error is want of memory.
@@ -33,7 +32,7 @@ fn outcome(alloc: Global, script: &Script) -> Result<Played, AllocError>
     a_finished_play_is_drained();
     a_stalled_play_is_stuck();
     small_scripts_run_serially();
-    every_serial_record_is_legal();
+    small_records_are_legal();
     play(alloc, script)
 }
 

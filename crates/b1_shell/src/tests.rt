@@ -1,6 +1,7 @@
 ghost use Rattle.std.specs.Prelude.{◌≡◌, ◌<◌};
 
-mod rows;
+mod broken;
+mod worked;
 
 use super::*;
 use b1_io::{MemSink, MemSource};

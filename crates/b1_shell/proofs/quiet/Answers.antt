@@ -1,4 +1,4 @@
-use Rattle.std.proofs.Common.{◌≡◌, refl, arith, ◌<◌, length, List, ℕ, subst}
+use Rattle.std.proofs.Common.{◌<◌, length, List, ℕ, subst}
 use Rattle.b1_io.specs.Streams.{TookSuch}
 use Rattle.b1_shell.proofs.Lemmas.{took_part}
 use Rattle.b1_shell.proofs.quiet.Goals as goal

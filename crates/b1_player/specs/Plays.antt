@@ -5,6 +5,6 @@ use Rattle.b1_player.specs.declared.Played.{Played}
 use Rattle.b1_player.specs.declared.Played.TheVariants.{Done, Stalled}
 
 -- the record of where the script's schedule ends, or of where it stalls, with the peers that wait
-abbrev pub IsPlayed : Script → Played → Type 0
-IsPlayed s (Done r) = IsPlay s.opening s.commands s.turns r
-IsPlayed s (Stalled waiting reached) = IsStall s.opening s.commands s.turns waiting reached
+abbrev pub PlaysScript : Script → Played → Type 0
+PlaysScript s (Done r) = IsPlay s.opening s.commands s.turns r
+PlaysScript s (Stalled waiting reached) = IsStall s.opening s.commands s.turns waiting reached
