@@ -1,8 +1,8 @@
 -- What the play of a script gives.
 use Rattle.b1_schedule.specs.Schedule.{IsPlay, IsStall}
 use Rattle.b1_script.specs.declared.script.Script.{Script}
-use Rattle.b1_player.specs.declared.Played.{Played}
-use Rattle.b1_player.specs.declared.Played.TheVariants.{Done, Stalled}
+use Rattle.b1_player.specs.declared.playing.Played.{Played}
+use Rattle.b1_player.specs.declared.playing.Played.TheVariants.{Done, Stalled}
 
 -- the record of where the script's schedule ends, or of where it stalls, with the peers that wait
 abbrev pub PlaysScript : Script → Played → Type 0

@@ -12,8 +12,8 @@ use Rattle.b1_model.specs.MachineParts.{State}
 use Rattle.b1_model.specs.MachineStep.{record_of_state}
 use Rattle.b1_model.specs.Names.{calls_of}
 use Rattle.b1_model.specs.Script as follows
-use Rattle.b1_player.specs.declared.Played.{Played}
-use Rattle.b1_player.specs.declared.Played.TheVariants as played
+use Rattle.b1_player.specs.declared.playing.Played.{Played}
+use Rattle.b1_player.specs.declared.playing.Played.TheVariants as played
 use Rattle.b1_report.specs.Report.{report_text}
 use Rattle.b1_report.specs.Parsing as reports
 use Rattle.b1_schedule.specs.Schedule.{IsPlay, IsStall, waiting_peers}
