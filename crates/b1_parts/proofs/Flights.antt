@@ -113,5 +113,5 @@ slots_arrive me made (node ∷ nodes) (s ∷ slots) a mine are up all =
     record {
       me_is = further.me_is ∙ first.me_is;
       less = less_trans me (node ∷ []) nodes (node ∷ nodes) a.part.handles (slot_arrives a (node, s)).part.handles (fold slot_arrives (slot_arrives a (node, s)) (zip nodes slots)).part.handles
-        (λ n. (let whole = times_cons n node nodes in let head = times_cons n node [] in omega (arith, whole, head))) first.less further.less;
+          (λ n. (let whole = times_cons n node nodes in let head = times_cons n node [] in omega (arith, whole, head))) first.less further.less;
     }

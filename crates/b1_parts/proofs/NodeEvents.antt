@@ -218,9 +218,9 @@ doomed_ok x index (s ∷ rest) me nodes slices queue handles made ok =
     doomed_ok x (index + 1) rest me (with_node s (in_state Dying) nodes) slices (put key (OwnNotice s index) (without (is_release_notice s) queue)) handles
     (λ r h. (let low = made r (inr h) in let le = with_node_length s (in_state Dying) nodes in omega (arith, low, le)))
     (notice_put me (with_node s (in_state Dying) nodes) slices (without (is_release_notice s) queue) handles
-      (released_doomed me nodes slices queue handles ok s (in_state Dying) refl)
-      key (OwnNotice s index) refl (λ node. refl)
-      ((let low = made s (inl refl) in let le = with_node_length s (in_state Dying) nodes in omega (arith, low, le)), ap (λ n. is_live n.state) (own_node s (in_state Dying) nodes (made s (inl refl)))))
+    (released_doomed me nodes slices queue handles ok s (in_state Dying) refl)
+    key (OwnNotice s index) refl (λ node. refl)
+    ((let low = made s (inl refl) in let le = with_node_length s (in_state Dying) nodes in omega (arith, low, le)), ap (λ n. is_live n.state) (own_node s (in_state Dying) nodes (made s (inl refl)))))
   where
     key : Key
     key = record { stamp = x.clock + 1; origin = x.me; index = index }

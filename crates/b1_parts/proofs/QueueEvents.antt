@@ -70,7 +70,6 @@ module _ (me : ℕ) (nodes : List NodePart) (slices : List Slice) (queue : Queue
   module _ (k : Key) (origin user index serial here : ℕ) (payload : List ℕ) (carries : List NodeRef) (new_slices : List Slice)
       (odd : is_odd k.stamp ≡ true) (made : serial < length nodes) (short : length payload ≤ 65536) (few : length carries ≤ 64)
       (unstaged : find (is_stage k.origin k.index) queue ≡ None) (takes : Takes here (slice_len (length payload) (length carries)) slices new_slices) where
-
     abbrev staged_message : Entry
     staged_message = Message origin user index serial here (length payload) carries (map (λ node. Unattached) carries) [] payload
 

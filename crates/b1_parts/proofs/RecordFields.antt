@@ -30,7 +30,6 @@ same_or_apart a b = at (same_ref a b) refl
 
 module _ {A : Type 0} (g : HandleRecord → A) (d : A) (unneeded : (h : HandleRecord) → is_needed h ≡ false → g h ≡ d) (absent : (node : NodeRef) → g (no_record node) ≡ d)
     (node : NodeRef) (f : HandleRecord → HandleRecord) (keeps : (h : HandleRecord) → (f h).node ≡ h.node) (hs : Handles) (up : Rising hs) where
-
   -- of the node itself
   pub field_changed : (φ : A → A) → ((h : HandleRecord) → g (f h) ≡ φ (g h)) → φ d ≡ d → g (record_or_none node (changed node f hs)) ≡ φ (g (record_or_none node hs))
   field_changed φ step none = ap (λ o. g (or_none node o)) (own_changed node f keeps hs up) ∙ at (record_of node hs)
@@ -77,7 +76,6 @@ unneeded_notice h is = (or_false (nat_lt 0 h.held) (nat_lt 0 h.flight) h.notice 
 
 module _ {A : Type 0} (g : HandleRecord → A) (d : A) (unneeded : (h : HandleRecord) → is_needed h ≡ false → g h ≡ d) (absent : (node : NodeRef) → g (no_record node) ≡ d)
     (f : HandleRecord → HandleRecord) (keeps : (h : HandleRecord) → (f h).node ≡ h.node) (same : (h : HandleRecord) → g (f h) ≡ g h) where
-
   pub field_stays : (node other : NodeRef) (hs : Handles) → Rising hs → g (record_or_none other (changed node f hs)) ≡ g (record_or_none other hs)
   field_stays node other hs up = at (same_or_apart node other)
     where
