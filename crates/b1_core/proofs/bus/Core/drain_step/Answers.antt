@@ -1,6 +1,10 @@
-use Rattle.std.proofs.Common.{◌≡◌, ◌∙◌, refl, sym, ap, subst, length, not, is_none}
-use Rattle.std.specs.Prelude.{IfOk}
+use Rattle.std.proofs.Common.{◌≡◌, ◌∙◌, refl, sym, ap, subst, List, length, not, is_none, Ok, Err, Result}
+use Rattle.std.specs.Prelude.{IfOk, OnErr}
 use native.Mathlib.Omega.{arith}
+use Rattle.b1_model.specs.declared.naming.Opening.{Opening}
+use Rattle.b1_model.specs.declared.commands.Command.{Command}
+use Rattle.b1_peer.specs.Seen.{PeerSeen}
+use Rattle.b1_driver.specs.Parts.{Driver}
 use Rattle.b1_core.specs.Turns.{Bus, drained, Drains}
 use Rattle.b1_core.specs.Bus.{state_of}
 use Rattle.b1_core.proofs.Turning.{as_many_drivers, as_many_peers}
@@ -68,3 +72,14 @@ returns-clause-turn g c =
     let new : Bus = record { opening = o; commands = lists; state = state_of ys es } in
     subst (λ b. IfOk c.turn.result (λ t. Drains b p t new)) c.self.view_is
     (drains_tried old new p c.drain_command-command.result c.turn.result c.turn.ensures.step (c.drain_command-command.ensures ∙ ap drained (sym here)) refl refl)
+
+abbrev bus_of : Opening → List (List Command) → List PeerSeen → List Driver → Bus
+bus_of o lists xs ds = record { opening = o; commands = lists; state = state_of xs ds }
+
+-- where a turn wants memory, the bus stays
+kept : {T E : Type 0} (o : Opening) (lists : List (List Command)) (xs ys : List PeerSeen) (ds es : List Driver) (b : Bus) (r : Result T E) → bus_of o lists xs ds ≡ b → OnErr r (ys ≡ xs) → OnErr r (es ≡ ds) → OnErr r (bus_of o lists ys es ≡ b)
+kept o lists xs ys ds es b (Ok t) is peers drivers = peers
+kept o lists xs ys ds es b (Err e) is peers drivers = ap (λ l. bus_of o lists l es) peers ∙ ap (λ l. bus_of o lists xs l) drivers ∙ is
+
+pub returns-clause-err : goal.returns-clause-err
+returns-clause-err g c = kept c.self.inside.opening c.self.inside.commands c.self.inside.peers.items c.turn.new.peers.items c.self.inside.drivers.items c.turn.new.drivers.items c.args.self.now c.turn.result c.self.view_is c.turn.ensures.peers c.turn.ensures.drivers
