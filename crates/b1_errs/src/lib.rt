@@ -41,6 +41,8 @@ pub enum Cause {
     Long,
     /// A line of a text is not in its form.
     Line,
+    /// The input is in its grammar, and asks for what is not built yet.
+    Later,
 }
 
 impl fmt::Display for Cause {
@@ -101,6 +103,7 @@ pub fn word(cause: Cause) -> &'static str
         Cause::Trailing => "trailing",
         Cause::Long => "long",
         Cause::Line => "line",
+        Cause::Later => "later",
     }
 }
 

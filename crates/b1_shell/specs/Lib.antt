@@ -1,5 +1,5 @@
 pub mod Texts
 pub mod Forms
-pub mod Small
+pub mod Built
 pub mod Faults
 pub mod Answers

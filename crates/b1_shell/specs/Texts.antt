@@ -5,9 +5,6 @@ use Rattle.b1_errs.specs.declared.Cause.{Cause}
 use Rattle.b1_errs.specs.Words as causes
 use Rattle.b1_judge.specs.declared.verdict.Clause.{Clause}
 use Rattle.b1_judge.specs.Words as clauses
-use Rattle.b1_model.specs.declared.records.Record.{Record}
-use Rattle.b1_report.specs.Report.{report_text}
-use Rattle.b1_words.specs.Numbers.{list_text}
 
 -- the line for words that aren't known
 abbrev pub usage_line : List ℕ
@@ -16,14 +13,6 @@ usage_line = codes "usage: bus1sh play|run|asm|dump|check|soak N\n"
 -- the line for a fault of the input: where it is, in bytes from the start, and its cause
 abbrev pub bad_line : ℕ → Cause → List ℕ
 bad_line at cause = codes "bad input at " ++ decimal at ++ codes ": " ++ causes.word_of cause ++ codes "\n"
-
--- the line for a stall: the peers whose commands aren't at their end
-abbrev pub stalled_line : List ℕ → List ℕ
-stalled_line waiting = codes "stalled " ++ list_text decimal waiting ++ codes "\n"
-
--- that line, and the report of what happened till then
-abbrev pub stall_text : List ℕ → Record → List ℕ
-stall_text waiting reached = stalled_line waiting ++ report_text reached
 
 -- the line for a legal report
 abbrev pub legal_line : List ℕ

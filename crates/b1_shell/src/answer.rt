@@ -1,49 +1,31 @@
 // What is said of an input, before anything is written.
-ghost use Rattle.std.specs.Prelude.{◌≡◌, ◌≤◌, length, IfOk};
+ghost use Rattle.std.specs.Prelude.{◌≡◌, ◌≤◌, ℕ, length, IfOk};
 ghost use Rattle.b1_script.specs.Spelling.{HasSpelling};
-ghost use Rattle.b1_shell.specs.Answers.{Becomes, SaysOf, Says};
+ghost use Rattle.b1_shell.specs.Answers.{IsReport, SaysOf, Says};
+ghost use Rattle.b1_shell.specs.Built.{IsBuilt};
 ghost use Rattle.b1_shell.specs.declared.forms.Form.TheVariants.{Play};
 ghost use Rattle.b1_shell.specs.Forms as forms;
-ghost use Rattle.b1_shell.specs.Texts as texts;
 
 use crate::Said;
+use crate::built::is_built;
 use crate::checking::answer_check;
 use crate::forms::Form;
-use crate::lines::{bad_line, stalled_line};
+use crate::lines::bad_line;
 use crate::texts::{answer_asm, answer_dump};
-use b1_course::{a_finished_play_is_drained, a_stalled_play_is_stuck};
-use b1_errs::NotRead;
-use b1_follows::what_is_played_is_scripted;
-use b1_law::every_reached_state_is_sound;
-use b1_model::{Nums32, Record};
-use b1_player::{Played, play};
+use b1_errs::{Cause, NotRead};
+use b1_play::play;
 use b1_report::print;
 use b1_script::{Script, read_whole};
-use b1_small::{small_records_are_legal, small_scripts_run_serially};
 use std::alloc::{AllocError, Global};
 
-/// What becomes of a script. An error is want of memory.
-fn outcome(alloc: Global, script: &Script) -> Result<Played, AllocError>
-    requires { HasSpelling script.now }
-    ensures { IfOk result (λ played. Becomes script.now played) }
+/// The report of a script.
+fn report(alloc: Global, script: &Script) -> Result<Vec<u8>, AllocError>
+    requires has_spelling { HasSpelling script.now }
+    requires built { IsBuilt script.now }
+    ensures { IfOk result (λ text. IsReport script.now text.items) }
 {
-    every_reached_state_is_sound();
-    what_is_played_is_scripted();
-    a_finished_play_is_drained();
-    a_stalled_play_is_stuck();
-    small_scripts_run_serially();
-    small_records_are_legal();
-    play(alloc, script)
-}
-
-/// The line of a stall, and the report behind it.
-fn stall_text(alloc: Global, waiting: &Nums32, reached: &Record) -> Result<Vec<u8>, AllocError>
-    ensures { IfOk result (λ text. text.items ≡ texts.stall_text waiting.now reached.now) }
-{
-    let mut text = stalled_line(alloc, waiting)?;
-    let report = print(alloc, reached)?;
-    text.extend_from_slice(&report)?;
-    Ok(text)
+    let outcome = play(alloc, &script.opening, &script.commands)?;
+    print(alloc, &outcome)
 }
 
 /// What is said of a script.
@@ -51,11 +33,10 @@ fn answer_script(alloc: Global, script: &Script) -> Result<(Said, Vec<u8>), Allo
     requires { HasSpelling script.now }
     ensures { IfOk result (λ r. SaysOf script.now r.0 r.1.items) }
 {
-    match outcome(alloc, script)? {
-        Played::Done(record) => Ok((Said::Done, print(alloc, &record)?)),
-        Played::Stalled { waiting, reached } => {
-            Ok((Said::Stalled, stall_text(alloc, &waiting, &reached)?))
-        }
+    if is_built(script) {
+        Ok((Said::Done, report(alloc, script)?))
+    } else {
+        Ok((Said::Bad, bad_line(alloc, 0, Cause::Later)?))
     }
 }
 

