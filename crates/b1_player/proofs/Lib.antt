@@ -1,0 +1,10 @@
+pub mod Sums
+pub mod Parts
+pub mod Running
+pub mod RoundSteps
+pub mod DrainSteps
+pub mod Ended
+pub mod Passing
+pub mod Emptying
+pub mod ShownLemmas
+pub mod Scripts

@@ -1,0 +1,6 @@
+use Rattle.std.proofs.Common.{sym, ◌∙◌}
+use Rattle.b1_player.proofs.ShownLemmas.{nothing_short}
+use Rattle.b1_player.proofs.shortage.has_shortage.Goals as goal
+
+pub returns : goal.returns
+returns c = λ none. nothing_short c.args.record.now (sym c.record_is_short.ensures ∙ none)
