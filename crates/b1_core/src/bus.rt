@@ -1,4 +1,4 @@
-ghost use Rattle.std.specs.Prelude.{◌≡◌, ◌<◌, true, false, length, IfOk, OnOk, OnErr};
+ghost use Rattle.std.specs.Prelude.{◌≡◌, ◌<◌, true, false, length, IfOk, OnErr};
 ghost use Rattle.b1_model.specs.Opening.{IsOpening};
 ghost use Rattle.b1_model.specs.MachineStep.{opening_state, record_of_state};
 ghost use Rattle.b1_core.specs.Turns.{driver_at, has_ended as has_ended_at, has_open, Drains, Turns};
@@ -17,7 +17,8 @@ use std::marker::Model;
 
 /// A bus on one thread: all its peers and drivers, each driver's commands, and the room for the record.
 ///
-/// Contracts see how it was opened, the commands, and the state that the turns have led to.
+/// Contracts see how it was opened, the commands, and the state that the turns have led to. A peer has fewer than 2^25
+/// calls: one more is answered as want of memory.
 #[derive(Drop)]
 pub struct Core<Q: QueueKind, P: PoolKind> {
     opening: Opening,

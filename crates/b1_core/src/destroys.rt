@@ -1,6 +1,6 @@
 //! The events of a destruction and of a flush.
 
-ghost use Rattle.std.specs.Prelude.{◌≡◌, ◌≤◌, ◌<◌, ◌^◌, [], length, option_copied, vec_capacity};
+ghost use Rattle.std.specs.Prelude.{◌≡◌, ◌≤◌, [], length, option_copied, vec_capacity};
 ghost use Rattle.b1_model.specs.declared.naming.Opening.{Opening as Openings};
 ghost use Rattle.b1_model.specs.declared.events.Action.TheVariants as act;
 ghost use Rattle.b1_model.specs.declared.events.Outcome.TheVariants as out;

@@ -1,6 +1,6 @@
 //! The work of one event: the driver's next, at the peer where it is.
 
-ghost use Rattle.std.specs.Prelude.{◌≡◌, ◌<◌, length};
+ghost use Rattle.std.specs.Prelude.{◌<◌, length};
 ghost use Rattle.b1_model.specs.MachineDriver.{next_action};
 ghost use Rattle.b1_core.specs.Events.{Allowed, Does, HasStock, HasUsers};
 

@@ -1,8 +1,6 @@
-ghost use Rattle.std.specs.Prelude.{◌≡◌, ◌≤◌, ◌<◌, ℕ, List, [], Some, length, map, replicate, slice_get, All, IfOk, OnOk};
+ghost use Rattle.std.specs.Prelude.{◌≡◌, map, All, IfOk, OnOk};
 ghost use Rattle.b1_model.specs.Opening.{IsOpening};
 ghost use Rattle.b1_model.specs.MachineStep.{idle_drivers, opening_state, peers_before as parts_before, wire_counted, wire_held as with_wire_held, wired, with_part};
-ghost use Rattle.b1_peer.specs.Seen.{PeerSeen};
-ghost use Rattle.b1_driver.specs.Parts.{Driver};
 ghost use Rattle.b1_core.specs.Events.{HasUsers};
 ghost use Rattle.b1_core.specs.Bus.{AreNew};
 ghost use Rattle.b1_core.specs.Wiring.{CanGive, CanPass};

@@ -1,4 +1,4 @@
-ghost use Rattle.std.specs.Prelude.{◌≡◌, ◌≢◌, ◌+◌, ◌<◌, ◌≤◌, None, Some, not, length, is_none, option_copied, slice_get, IfOk, OnOk, OnErr};
+ghost use Rattle.std.specs.Prelude.{◌≡◌, ◌≢◌, ◌+◌, ◌<◌, None, Some, not, length, is_none, option_copied, slice_get, IfOk, OnOk, OnErr};
 ghost use Rattle.b1_model.specs.Opening.{IsOpening};
 ghost use Rattle.b1_model.specs.MachineStep.{Reached, begun};
 ghost use Rattle.b1_model.specs.MachineDriver.{peer_of};
@@ -18,7 +18,8 @@ use b1_queue::QueueKind;
 use b1_script::resolve_after;
 use std::alloc::{AllocError, Global};
 
-/// A driver's list has fewer calls than this, with those that there is room for.
+/// A driver's list has fewer calls than this, with those that there is room for. A script of at most 2^24 bytes doesn't come
+/// near it.
 const CALL_LIMIT: usize = 1 << 25;
 
 /// Whether the next turn of driver p does something, and which command begins with it: where none is open, the next one
@@ -110,7 +111,7 @@ pub fn turn<Q: QueueKind, P: PoolKind>(
     Ok(turn_after(calls, driver))
 }
 
-// A command begins, if one does. An error is want of memory for its call, and changes nothing.
+// A command begins, if one does. An error is want of memory for its call, or too many calls, and changes nothing.
 fn begin(driver: &mut DriverState, command: Option<Command>) -> Result<(), AllocError>
     requires begins { is_none command ≡ not (is_none driver.old.part.doing) }
     requires few { length driver.old.part.calls + driver.old.spare < call_limit }

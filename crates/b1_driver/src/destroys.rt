@@ -1,4 +1,4 @@
-ghost use Rattle.std.specs.Prelude.{◌≡◌, ◌+◌, ◌<◌, ℕ, List, drop, get_or, if◌then◌else◌, length};
+ghost use Rattle.std.specs.Prelude.{◌≡◌, ◌<◌, ℕ, List, drop, get_or, if◌then◌else◌, length};
 ghost use Rattle.b1_model.specs.MachineDriver.{visiting, with_visit, syncing_notices, committing_notices, is_flushing};
 ghost use Rattle.b1_model.specs.MachineTables.{with_peer};
 ghost use Rattle.b1_driver.specs.Stages.{destroy_phase, turn_of, with_doomed, handles_after, IsDestruction, IsAfter};

@@ -1,4 +1,4 @@
-ghost use Rattle.std.specs.Prelude.{◌≡◌, ◌+◌, ◌≤◌, [], Some, None, true, false, get_or, length, max, option_copied, IfOk, OnOk, OnErr, vec_capacity};
+ghost use Rattle.std.specs.Prelude.{◌≡◌, ◌+◌, ◌≤◌, [], Some, None, true, false, length, max, option_copied, IfOk, OnOk, OnErr, vec_capacity};
 ghost use Rattle.b1_model.specs.declared.events.Action.TheVariants.{BeginDestroy};
 ghost use Rattle.b1_model.specs.declared.events.Outcome.TheVariants as out;
 ghost use Rattle.b1_model.specs.declared.events.Phase.TheVariants.{Starting};

@@ -1,5 +1,5 @@
 ghost use Rattle.std.specs.Prelude.{◌≡◌, false, None};
-ghost use Rattle.b1_model.specs.MachineTook.{attempt_of, is_await, is_disconnect, shut_after, told_after};
+ghost use Rattle.b1_model.specs.MachineTook.{attempt_of, is_await, shut_after, told_after};
 ghost use Rattle.b1_driver.specs.Parts.{attempted_after, attempts_after, attempted_by};
 
 use b1_model::{Command, Front, Outcome, Received};

@@ -18,6 +18,3 @@ mod settle;
 mod stage;
 
 pub use driver::DriverState;
-
-#[cfg(test)]
-mod tests;

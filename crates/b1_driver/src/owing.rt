@@ -1,5 +1,4 @@
 ghost use Rattle.std.specs.Prelude.{◌≡◌, ◌==◌, ◌+◌, ◌<◌, ◌≤◌, [], ◌∷◌, ◌++◌, drop, length, option_to_list, slice_get, filter_map, zip, IfOk, OnOk, vec_len, vec_capacity};
-ghost use Rattle.b1_model.specs.MachineDriver.{node_of_place};
 ghost use Rattle.b1_model.specs.MachineReceive.{reference_of};
 ghost use Rattle.b1_model.specs.MachineTook.{drops_of, place_references};
 

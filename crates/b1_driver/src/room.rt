@@ -1,4 +1,4 @@
-ghost use Rattle.std.specs.Prelude.{◌≡◌, ◌≤◌, [], max, replicate, OnOk, OnErr, IfOk, vec_len, vec_capacity};
+ghost use Rattle.std.specs.Prelude.{◌≡◌, ◌≤◌, [], max, replicate, IfOk, vec_len, vec_capacity};
 ghost use Rattle.b1_model.specs.declared.parts.Slot.TheVariants.{Unattached};
 
 use b1_model::{Reason, Slot, SlotLists, Slots};

@@ -1,4 +1,4 @@
-ghost use Rattle.std.specs.Prelude.{◌≡◌, ◌+◌, ◌<◌, ◌≤◌, ◌^◌, ℕ, [], get_or, length, set, vec_capacity};
+ghost use Rattle.std.specs.Prelude.{◌≡◌, ◌+◌, ◌<◌, ◌≤◌, ◌^◌, [], get_or, length, set, vec_capacity};
 ghost use Rattle.b1_model.specs.MachineDriver.{accepted_from, node_of_place, slot_of, collected_with, with_slot, attaching, staging, unstaging, place_done, syncing, send_of};
 ghost use Rattle.b1_driver.specs.Stages.{send_phase, send_turn, send_handles, send_after_handles, unattached, IsStaging, IsSend, IsSendAfter};
 

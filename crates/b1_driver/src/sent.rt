@@ -1,5 +1,4 @@
 ghost use Rattle.std.specs.Prelude.{◌≡◌, ◌≤◌, ℕ, List, [], false, max};
-ghost use Rattle.b1_model.specs.declared.commands.Command.{Command as Commands};
 ghost use Rattle.b1_model.specs.declared.events.Outcome.TheVariants as out;
 ghost use Rattle.b1_model.specs.declared.answers.Answer.TheVariants as answer;
 ghost use Rattle.b1_model.specs.MachineDriver.{turn};

@@ -1,6 +1,6 @@
 use Rattle.std.specs.Prelude.{◌≡◌, ℕ, List, codes}
 use Rattle.b1_errs.specs.declared.Cause.{Cause}
-use Rattle.b1_errs.specs.declared.Cause.TheVariants.{Short, Magic, Version, Count, Reserved, Command, Flags, Range, Wiring, Length, Trailing, Long, Line, Later}
+use Rattle.b1_errs.specs.declared.Cause.TheVariants.{Short, Magic, Version, Count, Reserved, Command, Flags, Range, Wiring, Length, Trailing, Long, Line}
 
 -- the bytes of a cause's word
 abbrev pub word_of : Cause → List ℕ
@@ -17,7 +17,6 @@ word_of Length = codes "length"
 word_of Trailing = codes "trailing"
 word_of Long = codes "long"
 word_of Line = codes "line"
-word_of Later = codes "later"
 
 -- causes with one word are one cause
 abbrev pub HaveDistinctWords : Type 0

@@ -41,8 +41,6 @@ pub enum Cause {
     Long,
     /// A line of a text is not in its form.
     Line,
-    /// The input is in its grammar, and asks for what is not built yet.
-    Later,
 }
 
 impl fmt::Display for Cause {
@@ -103,7 +101,6 @@ pub fn word(cause: Cause) -> &'static str
         Cause::Trailing => "trailing",
         Cause::Long => "long",
         Cause::Line => "line",
-        Cause::Later => "later",
     }
 }
 

@@ -5,7 +5,7 @@ use std::test::Fail;
 fn words(rt: HostRuntime) -> Result<(), Fail> {
     assert_eq!(rt; word(Cause::Short), "short");
     assert_eq!(rt; word(Cause::Wiring), "wiring");
-    assert_eq!(rt; word(Cause::Later), "later");
+    assert_eq!(rt; word(Cause::Line), "line");
     Ok(())
 }
 

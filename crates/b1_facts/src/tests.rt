@@ -63,14 +63,14 @@ fn to_itself(alloc: Global) -> Result<Record, AllocError>
 }
 
 /// The handles of a second message that carries its node and nothing.
-fn handles_at(alloc: Global, opening: &Opening, record: &Record) -> Result<Nums, AllocError>
+fn handles_at(alloc: Global, opening: &Opening, rec: &Record) -> Result<Nums, AllocError>
     requires opening { IsOpening opening.now }
-    requires peers { length record.now.peers ≡ length opening.now.peers }
-    requires one { length record.now.peers ≡ 1 }
-    requires call { length (calls_of record.now 0) ≡ 1 }
-    requires rises { Rises record.now }
+    requires peers { length rec.now.peers ≡ length opening.now.peers }
+    requires one { length rec.now.peers ≡ 1 }
+    requires call { length (calls_of rec.now 0) ≡ 1 }
+    requires rises { Rises rec.now }
 {
-    let facts = Facts::gather(alloc, opening, record)?;
+    let facts = Facts::gather(alloc, opening, rec)?;
     let walk = Walk::start(alloc, &facts, 0)?.pass(&facts)?;
     let key = Key {
         stamp: 4,
@@ -89,8 +89,8 @@ fn handles_at(alloc: Global, opening: &Opening, record: &Record) -> Result<Nums,
 fn own_handle_and_none(rt: HostRuntime) -> Result<(), Fail> {
     let alloc = rt.alloc();
     let opening = alone(alloc)?;
-    let record = to_itself(alloc)?;
-    let handles = handles_at(alloc, &opening, &record)?;
+    let rec = to_itself(alloc)?;
+    let handles = handles_at(alloc, &opening, &rec)?;
     assert_eq!(rt; handles.as_slice(), [4, u64::MAX].as_slice());
     Ok(())
 }

@@ -1,12 +1,7 @@
-ghost use Rattle.std.specs.Prelude.{◌≡◌, ◌≤◌, ◌<◌, ◌-◌, ◌^◌, length, true, false, Some, None, MatchResult};
+ghost use Rattle.std.specs.Prelude.{◌≡◌, ◌<◌, ◌-◌, true, false, Some, MatchResult};
 ghost use Rattle.b1_model.specs.declared.answers.Reason.TheVariants as reason;
-ghost use Rattle.b1_model.specs.MachineParts.{node_at};
 ghost use Rattle.b1_model.specs.MachinePool.{is_received};
-ghost use Rattle.b1_model.specs.MachineTables.{count_of};
-ghost use Rattle.b1_model.specs.MachineReceive.{received, received_part, has_dead as has_dead_item, reaped, reaped_part, released, released_part, dropped, slice_released};
-ghost use Rattle.b1_peer.specs.Seen.{KeepsReceived};
-ghost use Rattle.b1_peer.specs.Answers.{IsDelivered};
-ghost use Rattle.b1_parts.specs.Needs.{IsClock, HeldFew, ReleasesAnew};
+ghost use Rattle.b1_model.specs.MachineReceive.{has_dead as has_dead_item, reaped, reaped_part, released, released_part, slice_released};
 ghost use Rattle.b1_parts.specs.PeerOk.{PeerOk};
 
 use crate::state::PeerState;

@@ -1,11 +1,7 @@
-ghost use Rattle.std.specs.Prelude.{◌≡◌, ◌+◌, ◌-◌, ◌≤◌, ◌<◌, ◌==◌, ◌^◌, length, true, Some, None, MatchResult};
-ghost use Rattle.std.specs.List.{list_any};
+ghost use Rattle.std.specs.Prelude.{◌≡◌, ◌+◌, ◌-◌, ◌<◌, ◌^◌, length, Some};
 ghost use Rattle.b1_model.specs.MachineParts.{node_at};
 ghost use Rattle.b1_model.specs.MachineTables.{count_of};
-ghost use Rattle.b1_model.specs.MachineSend.{send_refusal, find_stage, unstaged, attach_answer, attached, final_stamp, stamped, synced, is_committed, committed, notices_committed};
-ghost use Rattle.b1_step.specs.Ordered.{NewKey};
-ghost use Rattle.b1_peer.specs.Seen.{KeepsReceived};
-ghost use Rattle.b1_peer.specs.Answers.{Begins, Stages};
+ghost use Rattle.b1_model.specs.MachineSend.{find_stage, unstaged, attach_answer, attached, final_stamp, stamped, synced, is_committed, committed, notices_committed};
 ghost use Rattle.b1_parts.specs.Needs.{IsClock, SlotsFit, CommitsAnew};
 ghost use Rattle.b1_peer.specs.Notices.{NoticesFit};
 

@@ -1,15 +1,12 @@
 //! A queued message leaves a peer.
 
-ghost use Rattle.std.specs.Prelude.{◌≡◌, ◌+◌, ◌*◌, ◌-◌, ◌<◌, ◌≤◌, ◌^◌, ℕ, [], ◌∷◌, true, false, drop, length, zip, All, IsTrue, vec_capacity, Some, Ok, slice_get, option_map};
+ghost use Rattle.std.specs.Prelude.{◌≡◌, ◌+◌, ◌-◌, ◌<◌, ◌≤◌, true, drop, length, IsTrue, Some, slice_get, option_map};
 ghost use Rattle.b1_model.specs.MachineParts.{is_data, carried};
 ghost use Rattle.b1_model.specs.MachinePool.{given_back};
 ghost use Rattle.b1_model.specs.MachineTables.{unexpected, foreign};
 ghost use Rattle.b1_model.specs.MachineSend.{offset_of};
-ghost use Rattle.b1_model.specs.MachineParts.{PeerPart, slots_of};
-ghost use Rattle.b1_model.specs.MachineReceive.{references, with_item, taken_entry, slots_arrived};
-ghost use Rattle.b1_store.specs.Slices.{is_queued, len_at};
-ghost use Rattle.b1_store.specs.Content.{Holds, padded, padded_len, message_bytes, SameElsewhere};
-ghost use Rattle.b1_mail.specs.Mail.{Mail};
+ghost use Rattle.b1_model.specs.MachineReceive.{references, with_item};
+ghost use Rattle.b1_store.specs.Slices.{is_queued};
 ghost use Rattle.b1_store.specs.Stored.{IsStored};
 ghost use Rattle.b1_carry.specs.Carry.{AreCarried};
 

@@ -5,7 +5,6 @@ ghost use Rattle.b1_model.specs.declared.answers.Receipt.TheVariants as receipts
 ghost use Rattle.b1_model.specs.MachineParts.{PeerPart};
 ghost use Rattle.b1_model.specs.MachinePool.{published};
 ghost use Rattle.b1_model.specs.MachineTables.{foreign};
-ghost use Rattle.b1_model.specs.MachineReceive.{with_item, slots_arrived};
 ghost use Rattle.b1_store.specs.Content.{Holds, padded, padded_len, SameElsewhere};
 ghost use Rattle.b1_store.specs.Slices.{is_queued, len_at};
 ghost use Rattle.b1_store.specs.Stored.{IsStored};

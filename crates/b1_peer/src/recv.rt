@@ -1,5 +1,4 @@
-ghost use Rattle.std.specs.Prelude.{◌≡◌, ◌+◌, ◌<◌, ◌-◌, ◌^◌, ◌*◌, ◌≤◌, drop, length, true, false, Ok, IsTrue};
-ghost use Rattle.b1_model.specs.MachineParts.{PeerPart, is_odd};
+ghost use Rattle.std.specs.Prelude.{◌≡◌, ◌+◌, ◌<◌, ◌-◌, ◌^◌, drop, length, true, Ok};
 ghost use Rattle.b1_model.specs.MachineTables.{changed, made_dead};
 ghost use Rattle.b1_model.specs.MachineReceive.{received, received_part, front_taken, cleared};
 ghost use Rattle.b1_peer.specs.Seen.{KeepsReceived};

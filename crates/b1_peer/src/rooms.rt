@@ -1,6 +1,6 @@
 //! The room that a stage makes before it changes anything.
 
-ghost use Rattle.std.specs.Prelude.{◌≡◌, ◌+◌, ◌≤◌, length, OnOk};
+ghost use Rattle.std.specs.Prelude.{◌+◌, length, OnOk};
 ghost use Rattle.b1_store.specs.Stored.{IsStored};
 ghost use Rattle.b1_peer.specs.Rooms.{MoreRoom, Enough};
 

@@ -1,7 +1,7 @@
-ghost use Rattle.std.specs.Prelude.{◌≡◌, ◌+◌, ◌++◌, ◌≤◌, ◌<◌, ◌^◌, ◌-◌, ◌||◌, filter, filter_map, find, length, map, true, Some, None, MatchResult, vec_len, vec_capacity};
+ghost use Rattle.std.specs.Prelude.{◌≡◌, ◌+◌, ◌++◌, ◌≤◌, ◌<◌, ◌^◌, ◌-◌, ◌||◌, filter, filter_map, find, length, map, Some, None, MatchResult, vec_len, vec_capacity};
 ghost use Rattle.b1_model.specs.Names.{is_given};
 ghost use Rattle.b1_model.specs.MachineTables.{node_named};
-ghost use Rattle.b1_model.specs.MachineSend.{first_reason, is_unknown, dead_reason, is_bad_send, send_refusal};
+ghost use Rattle.b1_model.specs.MachineSend.{first_reason, is_unknown, dead_reason, send_refusal};
 ghost use Rattle.b1_peer.specs.Answers.{Begins};
 
 use crate::begin::{has_odd, held_dead, make_all, own_dead, room_for_nodes};

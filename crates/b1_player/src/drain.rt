@@ -1,5 +1,4 @@
 ghost use Rattle.std.specs.Prelude.{◌≡◌, ◌<◌, ◌+◌, false, length, IfOk, OnOk};
-ghost use Rattle.b1_model.specs.MachineOrder.{no_command_open};
 ghost use Rattle.b1_core.specs.Turns.{driver_at};
 ghost use Rattle.b1_player.specs.Runs.{AllEnded, IsGood};
 ghost use Rattle.b1_player.specs.Draining.{AllClosed, Drained, Empties, TriesNext};

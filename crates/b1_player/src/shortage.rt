@@ -3,23 +3,23 @@ ghost use Rattle.std.specs.Prelude.{Option as Maybe};
 ghost use Rattle.std.specs.List.{list_any};
 ghost use Rattle.b1_model.specs.MachineDriver.{is_memory as is_for_memory};
 ghost use Rattle.b1_schedule.specs.Shortage.{shortage_of};
-ghost use Rattle.b1_player.specs.Shown.{shows_shortage, some_short};
+ghost use Rattle.b1_player.specs.Shown.{shows_shortage, some_short, some_shortage};
 
 use b1_model::{Answer, Call, Reason, Record};
 
 /// Whether a record shows a SEND that was refused for memory, also at one place of it.
-pub fn has_shortage(record: &Record) -> bool
-    ensures { result ≡ false → (p k : ℕ) (place : Maybe ℕ) → shortage_of record.now p k place ≡ false }
+pub fn has_shortage(rec: &Record) -> bool
+    ensures exact { result ≡ some_shortage rec.now }
+    ensures nowhere { result ≡ false → (p k : ℕ) (place : Maybe ℕ) → shortage_of rec.now p k place ≡ false }
 {
-    record_is_short(record)
+    record_is_short(rec)
 }
 
 /// Whether some call of a record was refused for memory.
-pub fn record_is_short(record: &Record) -> bool
-    ensures { result ≡ list_any (λ peer. list_any some_short peer.calls) record.now.peers }
+pub fn record_is_short(rec: &Record) -> bool
+    ensures { result ≡ some_shortage rec.now }
 {
-    record
-        .peers
+    rec.peers
         .as_slice()
         .iter()
         .any(|peer| calls_are_short(peer.calls.as_slice()))

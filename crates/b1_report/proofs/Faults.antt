@@ -224,7 +224,6 @@ module _ (peers : ℕ) (lt : peers < 2 ^ 32) (bytes : List ℕ) (ls : List Line)
   unfinished_line at (not_read.Bad place cause.Length) e free unended h = absurd h
   unfinished_line at (not_read.Bad place cause.Trailing) e free unended h = absurd h
   unfinished_line at (not_read.Bad place cause.Long) e free unended h = absurd h
-  unfinished_line at (not_read.Bad place cause.Later) e free unended h = absurd h
   unfinished_line at (not_read.Bad place cause.Line) e free unended (inl k) = broken_end place (k.0 ∙ e) free unended k.1
   unfinished_line at (not_read.Bad place cause.Line) e free unended (inr k) = early_end place at e k.0 free k.1
 
@@ -304,4 +303,3 @@ never_bad peers bytes (not_read.Bad at cause.Wiring) rec h r = absurd h
 never_bad peers bytes (not_read.Bad at cause.Length) rec h r = absurd h
 never_bad peers bytes (not_read.Bad at cause.Trailing) rec h r = absurd h
 never_bad peers bytes (not_read.Bad at cause.Long) rec h r = absurd h
-never_bad peers bytes (not_read.Bad at cause.Later) rec h r = absurd h

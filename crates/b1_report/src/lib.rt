@@ -7,8 +7,8 @@ mod drafts;
 mod numbers;
 mod parsing;
 
-ghost use Rattle.std.specs.Prelude.{◌≡◌, ◌++◌, ◌+◌, ◌-◌, ◌<◌, IfOk, OnOk, string_bytes, length};
-ghost use Rattle.b1_report.specs.Report.{call_text, calls_text, peer_text, peers_text, report_text, HasSpelling, AllSpelled, EachSpelled};
+ghost use Rattle.std.specs.Prelude.{◌≡◌, ◌++◌, ◌+◌, ◌-◌, ◌<◌, IfOk, OnOk, string_bytes};
+ghost use Rattle.b1_report.specs.Report.{call_text, calls_text, peer_text, peers_text, report_text};
 
 use answers::write_answer;
 use b1_model::{Call, Calls, PeerCalls, Record};
@@ -19,7 +19,6 @@ use std::fmt::Write;
 
 /// The line of one call. An error is want of memory.
 pub fn print_call(alloc: Global, call: &Call) -> Result<Vec<u8>, AllocError>
-    requires { HasSpelling call.now }
     ensures { IfOk result (λ text. text.items ≡ call_text call.now) }
 {
     let mut out = String::new(alloc);
@@ -29,7 +28,6 @@ pub fn print_call(alloc: Global, call: &Call) -> Result<Vec<u8>, AllocError>
 
 /// The report of a record. An error is want of memory.
 pub fn print(alloc: Global, rec: &Record) -> Result<Vec<u8>, AllocError>
-    requires { EachSpelled rec.now.peers }
     ensures { IfOk result (λ text. text.items ≡ report_text rec.now) }
 {
     let mut out = String::new(alloc);
@@ -38,7 +36,6 @@ pub fn print(alloc: Global, rec: &Record) -> Result<Vec<u8>, AllocError>
 }
 
 fn write_record(out: &mut String, rec: &Record) -> Result<(), AllocError>
-    requires { EachSpelled rec.now.peers }
     ensures { OnOk result (string_bytes out.new ≡ string_bytes out.old ++ report_text rec.now) }
 {
     write!(out, "bus1 report 1\npeers {}\n", rec.peers.len())?;
@@ -47,7 +44,6 @@ fn write_record(out: &mut String, rec: &Record) -> Result<(), AllocError>
 }
 
 fn write_peers(out: &mut String, peers: &[PeerCalls]) -> Result<(), AllocError>
-    requires { EachSpelled peers.now }
     ensures { OnOk result (string_bytes out.new ≡ string_bytes out.old ++ peers_text peers.now) }
 {
     for (number, peer) in peers.iter().enumerate() {
@@ -57,7 +53,6 @@ fn write_peers(out: &mut String, peers: &[PeerCalls]) -> Result<(), AllocError>
 }
 
 fn write_peer(out: &mut String, number: usize, peer: &PeerCalls) -> Result<(), AllocError>
-    requires { AllSpelled peer.now.calls }
     ensures { OnOk result (string_bytes out.new ≡ string_bytes out.old ++ peer_text (number, peer.now)) }
 {
     write!(
@@ -69,7 +64,6 @@ fn write_peer(out: &mut String, number: usize, peer: &PeerCalls) -> Result<(), A
 }
 
 fn write_calls(out: &mut String, calls: &Calls) -> Result<(), AllocError>
-    requires { AllSpelled calls.now }
     ensures { OnOk result (string_bytes out.new ≡ string_bytes out.old ++ calls_text calls.now) }
 {
     for call in calls.as_slice() {
@@ -79,7 +73,6 @@ fn write_calls(out: &mut String, calls: &Calls) -> Result<(), AllocError>
 }
 
 fn write_call(out: &mut String, call: &Call) -> Result<(), AllocError>
-    requires { HasSpelling call.now }
     ensures { OnOk result (string_bytes out.new ≡ string_bytes out.old ++ call_text call.now) }
 {
     write_command(out, &call.command)?;

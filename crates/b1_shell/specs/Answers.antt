@@ -1,52 +1,35 @@
 -- What a call of the program says of its input.
-use Rattle.std.specs.Prelude.{◌≡◌, ℕ, ◌<◌, ◌⊎◌, List, Option, drop, length}
+use Rattle.std.specs.Prelude.{◌≡◌, ℕ, ◌<◌, List, Option, drop, length}
 use Rattle.b1_errs.specs.declared.Cause.{Cause}
-use Rattle.b1_errs.specs.declared.Cause.TheVariants.{Later}
 use Rattle.b1_io.specs.Streams.{Took, TookSuch}
 use Rattle.b1_judge.specs.declared.verdict.Clause.{Clause}
 use Rattle.b1_judge.specs.Judged.{AllHold, IsFirstBreak}
 use Rattle.b1_model.specs.declared.records.Record.{Record}
-use Rattle.b1_model.specs.Legal.{Legal, Whole}
-use Rattle.b1_model.specs.Script as follows
-use Rattle.b1_report.specs.Report.{report_text}
 use Rattle.b1_report.specs.Parsing as reports
 use Rattle.b1_script.specs.declared.script.Script.{Script}
 use Rattle.b1_script.specs.Spelling.{IsScript, IsWhole}
-use Rattle.b1_serial.specs.Serial.{serial, memory}
 use Rattle.b1_text.specs.Accepted.{IsText}
-use Rattle.b1_text.specs.Texts.{script_text}
 use Rattle.b1_shell.specs.declared.Said.{Said}
-use Rattle.b1_shell.specs.declared.Said.TheVariants.{Done, Bad, Broken}
+use Rattle.b1_shell.specs.declared.Said.TheVariants.{Done, Bad, Stalled, Broken}
 use Rattle.b1_shell.specs.declared.forms.Form.{Form}
 use Rattle.b1_shell.specs.declared.forms.Form.TheVariants.{Play, Asm, Dump, Check}
-use Rattle.b1_shell.specs.Built.{IsBuilt}
+use Rattle.b1_shell.specs.Plays.{IsReport, IsStallReport}
 use Rattle.b1_shell.specs.Faults.{IsFault}
 use Rattle.b1_shell.specs.Texts.{bad_line, legal_line, broken_line}
 
 -- ---- play
 
--- the text is the report of what the serial bus did with the script, which is legal, whole and the script's
-pub record IsReport (s : Script) (text : List ℕ) : Type 0 where
-  pub outcome : Record
-  pub serial_is : outcome ≡ serial s.opening s.commands (memory outcome)
-  pub legal : Legal s.opening outcome
-  pub whole : Whole s.opening outcome
-  pub script : follows.Script s.opening s.commands outcome
-  pub text_is : text ≡ report_text outcome
-
--- the input is a script that is played, and the text is its report
+-- the input is a script, and the text is its report
 pub record IsPlayed (input text : List ℕ) : Type 0 where
   pub script : Script
   pub spelled : IsWhole input script
-  pub built : IsBuilt script
   pub report : IsReport script text
 
--- the input is a script that isn't played yet, and the text says so
-pub record IsLater (input text : List ℕ) : Type 0 where
+-- the input is a script that stalls, and the text tells it
+pub record IsStalled (input text : List ℕ) : Type 0 where
   pub script : Script
   pub spelled : IsWhole input script
-  pub unbuilt : IsBuilt script → ⊥
-  pub text_is : text ≡ bad_line 0 Later
+  pub report : IsStallReport script text
 
 -- ---- asm and dump
 
@@ -105,10 +88,10 @@ pub record IsFaulty (form : Form) (input text : List ℕ) : Type 0 where
   pub fault : IsFault form input at cause
   pub text_is : text ≡ bad_line at cause
 
--- the input is refused, and the text says why
-abbrev pub IsRefused : Form → List ℕ → List ℕ → Type 0
-IsRefused Play input text = IsFaulty Play input text ⊎ IsLater input text
-IsRefused form input text = IsFaulty form input text
+-- the script stalls, and the text tells it
+abbrev pub HasStalled : Form → List ℕ → List ℕ → Type 0
+HasStalled Play input text = IsStalled input text
+HasStalled form input text = ⊥
 
 -- the report is not legal, and the text says where
 abbrev pub IsBroken : Form → List ℕ → List ℕ → Type 0
@@ -118,13 +101,15 @@ IsBroken form input text = ⊥
 -- what each kind of text says of an input
 abbrev pub Says : Form → List ℕ → Said → List ℕ → Type 0
 Says form input Done text = IsDone form input text
-Says form input Bad text = IsRefused form input text
+Says form input Bad text = IsFaulty form input text
+Says form input Stalled text = HasStalled form input text
 Says form input Broken text = IsBroken form input text
 
 -- the status with each kind of text
 abbrev pub status : Said → ℕ
 status Done = 0
 status Bad = 2
+status Stalled = 3
 status Broken = 7
 
 -- the text is what is said of an input
@@ -133,9 +118,9 @@ IsSaid form input text = (said : Said) × Says form input said text
 
 -- what each kind of text says of a script that is to be played
 abbrev pub SaysOf : Script → Said → List ℕ → Type 0
-SaysOf s Done text = IsBuilt s × IsReport s text
-SaysOf s Bad text = (IsBuilt s → ⊥) × (text ≡ bad_line 0 Later)
-SaysOf s Broken text = ⊥
+SaysOf s Done text = IsReport s text
+SaysOf s Stalled text = IsStallReport s text
+SaysOf s said text = ⊥
 
 -- a text of this kind was taken
 abbrev pub TookText : Option (List ℕ) → Option (List ℕ) → (List ℕ → Type 0) → Type 0

@@ -1,5 +1,5 @@
 pub mod Texts
 pub mod Forms
-pub mod Built
 pub mod Faults
+pub mod Plays
 pub mod Answers

@@ -5,6 +5,7 @@ use Rattle.b1_errs.specs.declared.Cause.{Cause}
 use Rattle.b1_errs.specs.Words as causes
 use Rattle.b1_judge.specs.declared.verdict.Clause.{Clause}
 use Rattle.b1_judge.specs.Words as clauses
+use Rattle.b1_words.specs.Numbers.{list_text}
 
 -- the line for words that aren't known
 abbrev pub usage_line : List ℕ
@@ -21,3 +22,7 @@ legal_line = codes "legal\n"
 -- the line for a report that isn't legal: the first part that is broken, and the first peer and call that break it
 abbrev pub broken_line : Clause → ℕ → ℕ → List ℕ
 broken_line clause peer call = codes "not legal: " ++ clauses.word_of clause ++ codes " peer " ++ decimal peer ++ codes " call " ++ decimal call ++ codes "\n"
+
+-- the line before the report of a stall: the peers whose commands aren't at their end
+abbrev pub stalled_line : List ℕ → List ℕ
+stalled_line waiting = codes "stalled " ++ list_text decimal waiting ++ codes "\n"

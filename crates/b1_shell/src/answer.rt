@@ -1,42 +1,42 @@
 // What is said of an input, before anything is written.
-ghost use Rattle.std.specs.Prelude.{◌≡◌, ◌≤◌, ℕ, length, IfOk};
+ghost use Rattle.std.specs.Prelude.{◌≤◌, length, IfOk};
 ghost use Rattle.b1_script.specs.Spelling.{HasSpelling};
-ghost use Rattle.b1_shell.specs.Answers.{IsReport, SaysOf, Says};
-ghost use Rattle.b1_shell.specs.Built.{IsBuilt};
+ghost use Rattle.b1_shell.specs.Answers.{SaysOf, Says};
 ghost use Rattle.b1_shell.specs.declared.forms.Form.TheVariants.{Play};
 ghost use Rattle.b1_shell.specs.Forms as forms;
 
 use crate::Said;
-use crate::built::is_built;
 use crate::checking::answer_check;
 use crate::forms::Form;
 use crate::lines::bad_line;
+use crate::stalls::stall_report;
 use crate::texts::{answer_asm, answer_dump};
-use b1_errs::{Cause, NotRead};
-use b1_play::play;
+use b1_course::{a_finished_play_is_drained, a_stalled_play_is_stuck};
+use b1_errs::NotRead;
+use b1_follows::what_is_played_is_scripted;
+use b1_law::every_reached_state_is_sound;
+use b1_player::{Played, play};
 use b1_report::print;
 use b1_script::{Script, read_whole};
+use b1_small::{small_records_are_legal, small_scripts_run_serially};
 use std::alloc::{AllocError, Global};
 
-/// The report of a script.
-fn report(alloc: Global, script: &Script) -> Result<Vec<u8>, AllocError>
-    requires has_spelling { HasSpelling script.now }
-    requires built { IsBuilt script.now }
-    ensures { IfOk result (λ text. IsReport script.now text.items) }
-{
-    let outcome = play(alloc, &script.opening, &script.commands)?;
-    print(alloc, &outcome)
-}
-
-/// What is said of a script.
+/// What is said of a script: the report of what it comes to, or where it stalls.
 fn answer_script(alloc: Global, script: &Script) -> Result<(Said, Vec<u8>), AllocError>
     requires { HasSpelling script.now }
     ensures { IfOk result (λ r. SaysOf script.now r.0 r.1.items) }
 {
-    if is_built(script) {
-        Ok((Said::Done, report(alloc, script)?))
-    } else {
-        Ok((Said::Bad, bad_line(alloc, 0, Cause::Later)?))
+    every_reached_state_is_sound();
+    what_is_played_is_scripted();
+    a_finished_play_is_drained();
+    a_stalled_play_is_stuck();
+    small_scripts_run_serially();
+    small_records_are_legal();
+    match play(alloc, script)? {
+        Played::Done(outcome) => Ok((Said::Done, print(alloc, &outcome)?)),
+        Played::Stalled { waiting, reached } => {
+            Ok((Said::Stalled, stall_report(alloc, &waiting, &reached)?))
+        }
     }
 }
 

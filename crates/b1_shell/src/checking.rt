@@ -1,5 +1,5 @@
 // What is said of a script with its report.
-ghost use Rattle.std.specs.Prelude.{◌≡◌, ◌≤◌, drop, length, IfOk};
+ghost use Rattle.std.specs.Prelude.{◌≤◌, drop, length, IfOk};
 ghost use Rattle.b1_report.specs.Parsing as report;
 ghost use Rattle.b1_script.specs.Spelling.{IsScript};
 ghost use Rattle.b1_shell.specs.declared.forms.Form.TheVariants.{Check};

@@ -2,20 +2,20 @@
 #![tactic(auto)]
 
 mod answer;
-mod built;
 mod checking;
 mod forms;
 mod lines;
+mod stalls;
 #[cfg(test)]
 mod tests;
 mod texts;
 
-ghost use Rattle.std.specs.Prelude.{◌≡◌, ◌<◌, ◌≤◌, ◌⊎◌, [], ◌∷◌, Some, map, length, string_bytes, IfOk, IfErr, IfSome, Contains};
+ghost use Rattle.std.specs.Prelude.{◌≡◌, ◌<◌, ◌≤◌, ◌⊎◌, [], Some, map, length, string_bytes, IfOk, IfErr, IfSome};
 ghost use Rattle.b1_io.specs.Streams.{Rose, Took, TookSuch};
-ghost use Rattle.b1_shell.specs.Answers.{IsDone, IsRefused, IsBroken, IsSaid, Says, TookText, TookPart, status};
+ghost use Rattle.b1_shell.specs.Answers.{IsDone, IsFaulty, HasStalled, IsBroken, IsSaid, Says, TookText, TookPart, status};
 ghost use Rattle.b1_shell.specs.Forms.{AsksFor, AsksNothing, most_input as most};
 ghost use Rattle.b1_shell.specs.Texts.{usage_line};
-ghost use Rattle.b1_shell.specs.declared.Said.TheVariants.{Done, Broken};
+ghost use Rattle.b1_shell.specs.declared.Said.TheVariants.{Done, Stalled, Broken};
 ghost use Rattle.b1_shell.specs.declared.Unsaid.TheVariants.{Fault, Memory};
 
 use answer::answer;
@@ -33,6 +33,8 @@ pub enum Said {
     Done,
     /// Why the input is refused.
     Bad,
+    /// That a script stalls, and where.
+    Stalled,
     /// Where a report is not legal.
     Broken,
 }
@@ -63,6 +65,7 @@ fn read_and_answer<S: Source>(
     ensures says { IfOk result (λ r. IfSome (S.left source.old) (λ held. Says form held r.0 r.1.items)) }
     ensures end { IfOk result (λ r. IfSome (S.left source.old) (λ held. length held ≤ most form → S.left source.new ≡ Some [])) }
     ensures done_end { IfOk result (λ r. r.0 ≡ Done → IfSome (S.left source.old) (λ held. S.left source.new ≡ Some [])) }
+    ensures stalled_end { IfOk result (λ r. r.0 ≡ Stalled → IfSome (S.left source.old) (λ held. S.left source.new ≡ Some [])) }
     ensures broken_end { IfOk result (λ r. r.0 ≡ Broken → IfSome (S.left source.old) (λ held. S.left source.new ≡ Some [])) }
     ensures fault { IfErr result (λ e. e ≡ Fault → Rose (S.faults source.old) (S.faults source.new)) }
 {
@@ -82,6 +85,7 @@ fn status_of(said: Said) -> u8
     match said {
         Said::Done => 0,
         Said::Bad => 2,
+        Said::Stalled => 3,
         Said::Broken => 7,
     }
 }
@@ -92,8 +96,9 @@ fn status_of(said: Said) -> u8
 ///   report was written; with `asm` it held the text of a script, which was written; with `dump` a script, whose text
 ///   was written; with `check` a script and its report, which is legal, and `legal` was written;
 /// - 1: the words are none of these; the usage line was written;
-/// - 2: the source held nothing of the form, or, with `play`, a script that is not played yet; a line that says so was
-///   written;
+/// - 2: the source held nothing of the form; a line with the place and the cause of the first fault was written;
+/// - 3: with `play`, the script stalls: all peers whose commands aren't at their end wait for messages that nobody sends;
+///   a line that tells them was written, and behind it the report of what was reached;
 /// - 4: a read failed; nothing was written;
 /// - 5: a write failed; a part of the text was written;
 /// - 6: memory ran out; nothing was written;
@@ -108,7 +113,7 @@ pub fn quiet<S: Source, K: Sink>(
     source: &mut S,
     sink: &mut K,
 ) -> u8
-    ensures known { Contains (0 ∷ 1 ∷ 2 ∷ 4 ∷ 5 ∷ 6 ∷ 7 ∷ []) result }
+    ensures known { result ≤ 7 }
     // With other words, the usage line.
     ensures usage { result ≡ 1 → AsksNothing (map string_bytes words.now) }
     ensures usage_only { AsksNothing (map string_bytes words.now) → (result ≡ 1) ⊎ (result ≡ 5) }
@@ -118,8 +123,11 @@ pub fn quiet<S: Source, K: Sink>(
     ensures done { result ≡ 0 → AsksFor (map string_bytes words.now) (λ form. IfSome (S.left source.old) (λ held. TookText (K.taken sink.old) (K.taken sink.new) (IsDone form held))) }
     ensures done_end { result ≡ 0 → IfSome (S.left source.old) (λ held. S.left source.new ≡ Some []) }
     // The line for an input that is refused.
-    ensures bad { result ≡ 2 → AsksFor (map string_bytes words.now) (λ form. IfSome (S.left source.old) (λ held. TookText (K.taken sink.old) (K.taken sink.new) (IsRefused form held))) }
+    ensures bad { result ≡ 2 → AsksFor (map string_bytes words.now) (λ form. IfSome (S.left source.old) (λ held. TookText (K.taken sink.old) (K.taken sink.new) (IsFaulty form held))) }
     ensures bad_end { result ≡ 2 → AsksFor (map string_bytes words.now) (λ form. IfSome (S.left source.old) (λ held. length held ≤ most form → S.left source.new ≡ Some [])) }
+    // The line and the report of a script that stalls.
+    ensures stalled { result ≡ 3 → AsksFor (map string_bytes words.now) (λ form. IfSome (S.left source.old) (λ held. TookText (K.taken sink.old) (K.taken sink.new) (HasStalled form held))) }
+    ensures stalled_end { result ≡ 3 → IfSome (S.left source.old) (λ held. S.left source.new ≡ Some []) }
     // The line for a report that is not legal.
     ensures broken { result ≡ 7 → AsksFor (map string_bytes words.now) (λ form. IfSome (S.left source.old) (λ held. TookText (K.taken sink.old) (K.taken sink.new) (IsBroken form held))) }
     ensures broken_end { result ≡ 7 → IfSome (S.left source.old) (λ held. S.left source.new ≡ Some []) }
@@ -154,7 +162,7 @@ pub fn quiet<S: Source, K: Sink>(
 
 /// All that the program does: so far, what `quiet` does.
 pub fn top<S: Source, K: Sink>(alloc: Global, words: &[String], source: &mut S, sink: &mut K) -> u8
-    ensures known { Contains (0 ∷ 1 ∷ 2 ∷ 4 ∷ 5 ∷ 6 ∷ 7 ∷ []) result }
+    ensures known { result ≤ 7 }
     // With other words, the usage line.
     ensures usage { result ≡ 1 → AsksNothing (map string_bytes words.now) }
     ensures usage_only { AsksNothing (map string_bytes words.now) → (result ≡ 1) ⊎ (result ≡ 5) }
@@ -164,8 +172,11 @@ pub fn top<S: Source, K: Sink>(alloc: Global, words: &[String], source: &mut S, 
     ensures done { result ≡ 0 → AsksFor (map string_bytes words.now) (λ form. IfSome (S.left source.old) (λ held. TookText (K.taken sink.old) (K.taken sink.new) (IsDone form held))) }
     ensures done_end { result ≡ 0 → IfSome (S.left source.old) (λ held. S.left source.new ≡ Some []) }
     // The line for an input that is refused.
-    ensures bad { result ≡ 2 → AsksFor (map string_bytes words.now) (λ form. IfSome (S.left source.old) (λ held. TookText (K.taken sink.old) (K.taken sink.new) (IsRefused form held))) }
+    ensures bad { result ≡ 2 → AsksFor (map string_bytes words.now) (λ form. IfSome (S.left source.old) (λ held. TookText (K.taken sink.old) (K.taken sink.new) (IsFaulty form held))) }
     ensures bad_end { result ≡ 2 → AsksFor (map string_bytes words.now) (λ form. IfSome (S.left source.old) (λ held. length held ≤ most form → S.left source.new ≡ Some [])) }
+    // The line and the report of a script that stalls.
+    ensures stalled { result ≡ 3 → AsksFor (map string_bytes words.now) (λ form. IfSome (S.left source.old) (λ held. TookText (K.taken sink.old) (K.taken sink.new) (HasStalled form held))) }
+    ensures stalled_end { result ≡ 3 → IfSome (S.left source.old) (λ held. S.left source.new ≡ Some []) }
     // The line for a report that is not legal.
     ensures broken { result ≡ 7 → AsksFor (map string_bytes words.now) (λ form. IfSome (S.left source.old) (λ held. TookText (K.taken sink.old) (K.taken sink.new) (IsBroken form held))) }
     ensures broken_end { result ≡ 7 → IfSome (S.left source.old) (λ held. S.left source.new ≡ Some []) }

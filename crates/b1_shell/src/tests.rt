@@ -1,20 +1,29 @@
-ghost use Rattle.std.specs.Prelude.{◌≡◌, ◌<◌};
+ghost use Rattle.std.specs.Prelude.{◌<◌};
 
 use super::*;
 use b1_io::{MemSink, MemSource};
 use std::test::Fail;
 
-// The numbers of a script that is played, and the status and the text that they give.
+mod broken;
+mod messages;
+mod nodes;
+mod refusals;
+mod turns;
+
+// The text of a script that is played, and the status and the text that it gives.
 struct Row {
-    numbers: &'static [u32],
-    status: u8,
     text: &'static str,
+    status: u8,
+    output: &'static str,
 }
 
 const ONE_MESSAGE: [u32; 42] = [
     0x31535542, 0x31524353, 1, 2, 0, 0, 1, 0, 168, 0, 0, 4096, 16, 4096, 16, 0, 1, 4096, 16, 4096,
     16, 0, 1, 0, 4, 0, 1, 0, 7, 0, 1, 0, 2, 0, 2, 0, 26984, 0, 1, 0, 8, 0,
 ];
+
+const ONE_MESSAGE_REPORT: &str =
+    "bus1 report 1\npeers 2\npeer 0 epoch 0 clock 2\nsend 0 to 2 with - data 6869 = sent 2 ok\npeer 1 epoch 0 clock 2\nrecv = data 2.0.0 node 4 slice 0 handles - bytes 6869\nend\n";
 
 const TWO_IN_ORDER: [u32; 56] = [
     0x31535542, 0x31524353, 1, 2, 0, 0, 1, 0, 224, 0, 0, 4096, 16, 4096, 16, 0, 1, 4096, 16, 4096,
@@ -24,78 +33,6 @@ const TWO_IN_ORDER: [u32; 56] = [
 
 const TWO_IN_ORDER_REPORT: &str =
     "bus1 report 1\npeers 2\npeer 0 epoch 0 clock 4\nsend 0 to 2 with - data 61 = sent 2 ok\nsend 0 to 2 with - data 62 = sent 4 ok\npeer 1 epoch 0 clock 4\nrecv = data 2.0.0 node 4 slice 0 handles - bytes 61\nrecv = data 4.0.0 node 4 slice 8 handles - bytes 62\nrecv = refused EAGAIN:absent\nend\n";
-
-const ROWS: [Row; 8] = [
-    // one message
-    Row {
-        numbers: &ONE_MESSAGE,
-        status: 0,
-        text: "bus1 report 1\npeers 2\npeer 0 epoch 0 clock 2\nsend 0 to 2 with - data 6869 = sent 2 ok\npeer 1 epoch 0 clock 2\nrecv = data 2.0.0 node 4 slice 0 handles - bytes 6869\nend\n",
-    },
-    // empty message has a slice
-    Row {
-        numbers: &[
-            0x31535542, 0x31524353, 1, 2, 0, 0, 1, 0, 208, 0, 0, 4096, 16, 4096, 16, 0, 1, 4096,
-            16, 4096, 16, 0, 1, 0, 4, 0, 2, 0, 7, 0, 1, 0, 0, 0, 2, 0, 7, 0, 1, 0, 1, 0, 2, 0, 97,
-            0, 2, 0, 8, 0, 8, 0,
-        ],
-        status: 0,
-        text: "bus1 report 1\npeers 2\npeer 0 epoch 0 clock 4\nsend 0 to 2 with - data - = sent 2 ok\nsend 0 to 2 with - data 61 = sent 4 ok\npeer 1 epoch 0 clock 4\nrecv = data 2.0.0 node 4 slice 0 handles - bytes -\nrecv = data 4.0.0 node 4 slice 8 handles - bytes 61\nend\n",
-    },
-    // two in order then absent
-    Row {
-        numbers: &TWO_IN_ORDER,
-        status: 0,
-        text: TWO_IN_ORDER_REPORT,
-    },
-    // least free slice
-    Row {
-        numbers: &[
-            0x31535542, 0x31524353, 1, 2, 0, 0, 1, 0, 392, 0, 0, 48, 16, 4096, 16, 0, 1, 4096, 16,
-            4096, 16, 0, 0, 1, 4, 0, 11, 0, 7, 0, 1, 0, 16, 0, 4, 0, 0, 0, 0, 0, 7, 0, 1, 0, 8, 0,
-            4, 0, 0, 0, 7, 0, 1, 0, 16, 0, 4, 0, 0, 0, 0, 0, 8, 0, 8, 0, 8, 0, 6, 0, 0, 0, 7, 0, 1,
-            0, 8, 0, 4, 0, 0, 0, 7, 0, 1, 0, 8, 0, 4, 0, 0, 0, 8, 0, 8, 0, 0, 0,
-        ],
-        status: 0,
-        text: "bus1 report 1\npeers 2\npeer 0 epoch 0 clock 10\nsend 0 to 4 with - data 00000000000000000000000000000000 = sent 2 ok\nsend 0 to 4 with - data 0000000000000000 = sent 4 ok\nsend 0 to 4 with - data 00000000000000000000000000000000 = sent 6 ok\nrecv = data 2.0.0 node 4 slice 0 handles - bytes 00000000000000000000000000000000\nrecv = data 4.0.0 node 4 slice 16 handles - bytes 0000000000000000\nrecv = data 6.0.0 node 4 slice 24 handles - bytes 00000000000000000000000000000000\nslice 0 = ok\nsend 0 to 4 with - data 0000000000000000 = sent 8 ok\nsend 0 to 4 with - data 0000000000000000 = sent 10 ok\nrecv = data 8.0.0 node 4 slice 40 handles - bytes 0000000000000000\nrecv = data 10.0.0 node 4 slice 0 handles - bytes 0000000000000000\npeer 1 epoch 0 clock 0\nend\n",
-    },
-    // missing turns are short
-    Row {
-        numbers: &[
-            0x31535542, 0x31524353, 1, 2, 0, 0, 1, 1, 168, 0, 0, 4096, 16, 4096, 16, 0, 1, 4096,
-            16, 4096, 16, 0, 1, 0, 4, 0, 1, 0, 7, 0, 1, 0, 2, 0, 2, 0, 26984, 0, 1, 0, 8, 0,
-        ],
-        status: 2,
-        text: "bad input at 168: short\n",
-    },
-    // a reserved field
-    Row {
-        numbers: &[
-            0x31535542, 0x31524353, 1, 2, 0, 0, 1, 0, 168, 1, 0, 4096, 16, 4096, 16, 0, 1, 4096,
-            16, 4096, 16, 0, 1, 0, 4, 0, 1, 0, 7, 0, 1, 0, 2, 0, 2, 0, 26984, 0, 1, 0, 8, 0,
-        ],
-        status: 2,
-        text: "bad input at 36: reserved\n",
-    },
-    // one turn
-    Row {
-        numbers: &[
-            0x31535542, 0x31524353, 1, 2, 0, 0, 1, 1, 176, 0, 0, 4096, 16, 4096, 16, 0, 1, 4096,
-            16, 4096, 16, 0, 1, 0, 4, 0, 1, 0, 7, 0, 1, 0, 2, 0, 2, 0, 26984, 0, 1, 0, 8, 0, 0, 0,
-        ],
-        status: 2,
-        text: "bad input at 0: later\n",
-    },
-    // a query
-    Row {
-        numbers: &[
-            0x31535542, 0x31524353, 1, 2, 0, 0, 1, 0, 128, 0, 0, 4096, 16, 4096, 16, 0, 1, 4096,
-            16, 4096, 16, 0, 1, 0, 4, 0, 1, 0, 2, 0, 0, 0,
-        ],
-        status: 2,
-        text: "bad input at 0: later\n",
-    },
-];
 
 // Numbers of four bytes each, least byte first.
 fn bytes_of(alloc: Global, numbers: &[u32]) -> Result<Vec<u8>, AllocError> {
@@ -138,26 +75,27 @@ fn answer_to(
     ask(alloc, word, input, Vec::new(alloc), Vec::new(alloc))
 }
 
-#[test]
-fn rows(rt: HostRuntime) -> Result<(), Fail> {
-    let alloc = rt.alloc();
-    for row in &ROWS {
-        let input = bytes_of(alloc, row.numbers)?;
-        let (status, sink) = answer_to(alloc, "play", input)?;
-        assert_eq!(rt; status, row.status);
-        assert_eq!(rt; sink.taken(), row.text.as_bytes());
-    }
-    Ok(())
+// What playing the script of a text gives: the status, and the sink behind it.
+fn play_text(alloc: Global, text: &'static str) -> Result<(u8, MemSink), AllocError> {
+    let text = Vec::from_slice(alloc, text.as_bytes())?;
+    let (_, made) = answer_to(alloc, "asm", text)?;
+    let script = Vec::from_slice(alloc, made.taken())?;
+    answer_to(alloc, "play", script)
 }
 
 #[test]
 fn cut_and_trailing(rt: HostRuntime) -> Result<(), Fail> {
     let alloc = rt.alloc();
-    let mut cut = bytes_of(alloc, &ONE_MESSAGE)?;
-    cut.truncate(167);
-    let (status, sink) = answer_to(alloc, "play", cut)?;
+    let (status, sink) = answer_to(alloc, "play", Vec::new(alloc))?;
     assert_eq!(rt; status, 2);
-    assert_eq!(rt; sink.taken(), b"bad input at 164: short\n".as_slice());
+    assert_eq!(rt; sink.taken(), b"bad input at 0: short\n".as_slice());
+    for word in ["play", "dump"] {
+        let mut cut = bytes_of(alloc, &ONE_MESSAGE)?;
+        cut.truncate(167);
+        let (status, sink) = answer_to(alloc, word, cut)?;
+        assert_eq!(rt; status, 2);
+        assert_eq!(rt; sink.taken(), b"bad input at 164: short\n".as_slice());
+    }
     let mut longer = bytes_of(alloc, &ONE_MESSAGE)?;
     longer.push(0)?;
     let (status, sink) = answer_to(alloc, "play", longer)?;
@@ -202,7 +140,7 @@ fn failing_reads_and_writes(rt: HostRuntime) -> Result<(), Fail> {
             [fails].to_vec(alloc)?,
         )?;
         assert_eq!(rt; status, 5);
-        assert_eq!(rt; sink.taken(), &ROWS[0].text.as_bytes()[..count]);
+        assert_eq!(rt; sink.taken(), &ONE_MESSAGE_REPORT.as_bytes()[..count]);
     }
     Ok(())
 }

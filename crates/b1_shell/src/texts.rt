@@ -1,5 +1,5 @@
 // What is said of a text that is to be a script, and of a script whose text is asked for.
-ghost use Rattle.std.specs.Prelude.{◌≡◌, ◌≤◌, length, IfOk};
+ghost use Rattle.std.specs.Prelude.{IfOk};
 ghost use Rattle.b1_shell.specs.declared.forms.Form.TheVariants.{Asm, Dump};
 ghost use Rattle.b1_shell.specs.Forms as forms;
 ghost use Rattle.b1_shell.specs.Answers.{Says};

@@ -1,10 +1,7 @@
-use Rattle.std.proofs.Common.{◌≡◌, refl, arith, ◌<◌, length, List, ℕ, subst}
+use Rattle.std.proofs.Common.{◌<◌, length, List, ℕ, subst}
 use Rattle.b1_io.specs.Streams.{TookSuch}
 use Rattle.b1_shell.proofs.Lemmas.{took_part}
 use Rattle.b1_shell.proofs.quiet.Goals as goal
-
-pub returns-in-Err-clause-known : goal.returns-in-Err-clause-known
-returns-in-Err-clause-known g c = (4, omega arith, refl)
 
 pub returns-in-Err-clause-usage_part : goal.returns-in-Err-clause-usage_part
 returns-in-Err-clause-usage_part g c = λ _ _.

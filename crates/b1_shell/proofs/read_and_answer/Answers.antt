@@ -1,4 +1,3 @@
-use Rattle.std.proofs.Common.{◌≡◌, sym}
 use Rattle.b1_shell.proofs.Lemmas.{long_said}
 use Rattle.b1_shell.proofs.read_and_answer.Goals as goal
 

@@ -3,4 +3,4 @@ use Rattle.b1_course.proofs.Ends.{finished_drained}
 use Rattle.b1_course.proofs.laws.a_finished_play_is_drained.Goals as goal
 
 pub returns : goal.returns
-returns c = λ o lists turns r valid play. (play.state, play.record_is, finished_drained lists o valid (shortage_of r) turns play.state play.comes)
+returns c = λ o lists turns r valid play. finished_drained lists o valid (shortage_of r) turns play.state play.comes

@@ -3,4 +3,4 @@ use Rattle.b1_course.proofs.Ends.{stalled_stuck}
 use Rattle.b1_course.proofs.laws.a_stalled_play_is_stuck.Goals as goal
 
 pub returns : goal.returns
-returns c = λ o lists turns waiting r valid stall. (stall.state, stall.record_is, stall.waiting_is, stalled_stuck lists o valid no_shortage turns stall.state stall.comes)
+returns c = λ o lists turns waiting r valid stall. stalled_stuck lists o valid no_shortage turns stall.state stall.comes

@@ -1,4 +1,4 @@
-use Rattle.std.proofs.Common.{◌≡◌, ◌+◌}
+use Rattle.std.proofs.Common.{◌+◌}
 use Rattle.b1_shell.proofs.Lemmas.{report_fault}
 use Rattle.b1_shell.proofs.checking.answer_report.Goals as goal
 

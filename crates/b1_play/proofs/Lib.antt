@@ -1,5 +1,0 @@
-pub mod HeldLemmas
-pub mod RunLemmas
-pub mod SendLemmas
-pub mod DirectoryLemmas
-pub mod TableLemmas
