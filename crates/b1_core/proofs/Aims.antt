@@ -18,11 +18,11 @@ use Rattle.b1_model.specs.declared.events.Phase.TheVariants as phase
 use Rattle.b1_model.specs.MachineParts.{PeerPart, DriverPart, State}
 use Rattle.b1_model.specs.MachineDriver.{no_ref, node_of_place, first_action, phase_action, next_action, peer_of}
 use Rattle.b1_step.specs.Rights.{Has}
-use Rattle.b1_shape.specs.Words.{IsPeer, IsDriver, IsMade}
-use Rattle.b1_shape.specs.Sends.{IsBegun, SendShape}
-use Rattle.b1_shape.specs.Notices.{AreOthers, IsDestruction, DestructionShape}
-use Rattle.b1_shape.specs.References.{IsDrop}
-use Rattle.b1_shape.specs.Sound.{IsSound}
+use Rattle.b1_inv.specs.Words.{IsPeer, IsDriver, IsMade}
+use Rattle.b1_inv.specs.Sends.{IsBegun, SendShape}
+use Rattle.b1_inv.specs.Notices.{AreOthers, IsDestruction, DestructionShape}
+use Rattle.b1_inv.specs.References.{IsDrop}
+use Rattle.b1_inv.specs.Sound.{IsSound}
 use Rattle.b1_core.proofs.Facts.{few_peers, peer_within}
 use Rattle.b1_core.proofs.Opened.{begins}
 

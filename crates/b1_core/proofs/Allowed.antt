@@ -32,12 +32,12 @@ use Rattle.b1_model.specs.MachineDriver.{no_ref, node_of_place, phase_action}
 use Rattle.b1_model.specs.MachineEvents.{begun_of, slots_at, collected_of, doomed_of}
 use Rattle.b1_step.specs.Rights.{Has}
 use Rattle.b1_step.specs.Ordered.{NewKey}
-use Rattle.b1_shape.specs.Words.{IsPeer, IsDriver, IsMade, is_accepted_place, waits_at, is_pending, is_uncommitted, fixed_stamp}
-use Rattle.b1_shape.specs.Sends.{IsBegun, IsFilled, IsSending, IsAttached, SendShape}
-use Rattle.b1_shape.specs.Stages.{HasSender, IsMessageOf}
-use Rattle.b1_shape.specs.Stamps.{WasCommitted}
-use Rattle.b1_shape.specs.Notices.{Apart, IsDestruction, DestructionShape}
-use Rattle.b1_parts.specs.Needs.{IsClock, IsSlot, AreSlots, SlotsFit, CommitsAnew, AreDying}
+use Rattle.b1_inv.specs.Words.{IsPeer, IsDriver, IsMade, is_accepted_place, waits_at, is_pending, is_uncommitted, fixed_stamp}
+use Rattle.b1_inv.specs.Sends.{IsBegun, IsFilled, IsSending, IsAttached, SendShape}
+use Rattle.b1_inv.specs.Stages.{HasSender, IsMessageOf}
+use Rattle.b1_inv.specs.Stamps.{WasCommitted}
+use Rattle.b1_inv.specs.Notices.{Apart, IsDestruction, DestructionShape}
+use Rattle.b1_inv_peer.specs.Needs.{IsClock, IsSlot, AreSlots, SlotsFit, CommitsAnew, AreDying}
 use Rattle.b1_core.specs.Events.{StageAllowed, AttachAllowed, CommitAllowed, StampDestroyAllowed, VisitAllowed, NoticesAllowed, AllowedOf}
 use Rattle.b1_core.specs.Sound.{Sound}
 use Rattle.b1_core.proofs.Bounds.{IsShort, clock_is, all_calls_few}

@@ -11,10 +11,10 @@ use Rattle.b1_model.specs.declared.records.Call.{Call}
 use Rattle.b1_model.specs.Opening.{IsOpening}
 use Rattle.b1_model.specs.MachineParts.{PeerPart, DriverPart, State, clock_limit}
 use Rattle.b1_model.specs.MachineTook.{answer_of, is_waiting, as_call, call_of, fixed_call, open_by, open_call, driver_calls}
-use Rattle.b1_shape.specs.Words.{IsDriver}
-use Rattle.b1_shape.specs.Bounds.{is_unanswered, calls_begun, call_bound, all_calls_bound}
-use Rattle.b1_shape.specs.Clocks.{IsClock as IsBounded, has_unstamped, spent, all_spent, clock_bound}
-use Rattle.b1_parts.specs.Needs.{IsClock}
+use Rattle.b1_inv.specs.Words.{IsDriver}
+use Rattle.b1_inv.specs.Bounds.{is_unanswered, calls_begun, call_bound, all_calls_bound}
+use Rattle.b1_inv.specs.Clocks.{IsClock as IsBounded, has_unstamped, spent, all_spent, clock_bound}
+use Rattle.b1_inv_peer.specs.Needs.{IsClock}
 
 -- ---- clocks
 

@@ -15,10 +15,10 @@ use Rattle.b1_model.specs.MachineTables.{count_of}
 use Rattle.b1_model.specs.MachineCounts.{driver_amount, fresh, owed_amount}
 use Rattle.b1_step.specs.Rights.{Has}
 use Rattle.b1_step.specs.Ordered.{NewKey}
-use Rattle.b1_shape.specs.Words.{IsPeer, IsDriver, IsMade}
-use Rattle.b1_shape.specs.References.{count_in}
-use Rattle.b1_parts.specs.PeerOk.{PeerOk, count, is_notice_for}
-use Rattle.b1_parts.specs.Needs.{ReleasesAnew}
+use Rattle.b1_inv.specs.Words.{IsPeer, IsDriver, IsMade}
+use Rattle.b1_inv.specs.References.{count_in}
+use Rattle.b1_inv_peer.specs.PeerOk.{PeerOk, count, is_notice_for}
+use Rattle.b1_inv_peer.specs.Needs.{ReleasesAnew}
 use Rattle.b1_core.specs.Events.{DropAllowed}
 use Rattle.b1_core.specs.Sound.{Sound}
 use Rattle.b1_core.proofs.Bounds.{clock_is}

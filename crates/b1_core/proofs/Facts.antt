@@ -14,10 +14,10 @@ use Rattle.b1_model.specs.MachineParts.{PeerPart, DriverPart, State, is_staged, 
 use Rattle.b1_step.specs.Rights.{Has}
 use Rattle.b1_step.specs.Ordered.{NewKey}
 use Rattle.b1_step.specs.Fixed.{IsNumbered}
-use Rattle.b1_shape.specs.Words.{IsPeer, IsDriver, IsMade, waits_at, is_uncommitted}
-use Rattle.b1_shape.specs.Stages.{HasSender, StagesRight}
-use Rattle.b1_shape.specs.Notices.{NoticeShape, NoticesRight, doomed_now}
-use Rattle.b1_shape.specs.Sound.{IsSound}
+use Rattle.b1_inv.specs.Words.{IsPeer, IsDriver, IsMade, waits_at, is_uncommitted}
+use Rattle.b1_inv.specs.Stages.{HasSender, StagesRight}
+use Rattle.b1_inv.specs.Notices.{NoticeShape, NoticesRight, doomed_now}
+use Rattle.b1_inv.specs.Sound.{IsSound}
 
 some_same : {A : Type 0} (x y : A) → Some x ≡ Some y → x ≡ y
 some_same x y same = cc same

@@ -13,8 +13,8 @@ use Rattle.b1_model.specs.MachineParts.{PeerPart, DriverPart, HandleRecord, Stat
 use Rattle.b1_model.specs.MachineTables.{count_of, counted, more_held, next_number, node_named}
 use Rattle.b1_model.specs.MachineStep.{Reached, no_peer, with_part, wire_made, wire_counted, wire_held, wired, peers_before, idle_driver, idle_drivers, opening_state}
 use Rattle.b1_step.specs.Rights.{Has}
-use Rattle.b1_shape.specs.Words.{IsPeer, IsDriver}
-use Rattle.b1_shape.specs.Bounds.{call_bound}
+use Rattle.b1_inv.specs.Words.{IsPeer, IsDriver}
+use Rattle.b1_inv.specs.Bounds.{call_bound}
 use Rattle.b1_core.specs.Sound.{Sound}
 use Rattle.b1_core.specs.Wiring.{part_of, CanCount, CanHold, CanPass, CanGive}
 use Rattle.b1_core.proofs.Bounds.{IsShort, calls_few, all_calls_few}

@@ -21,14 +21,14 @@ use Rattle.b1_model.specs.MachineDriver.{node_of_place, phase_action, next_actio
 use Rattle.b1_model.specs.MachineTook.{is_done}
 use Rattle.b1_model.specs.MachineStep.{begun, no_peer}
 use Rattle.b1_step.specs.Rights.{Has}
-use Rattle.b1_shape.specs.Words.{IsPeer, IsDriver, phase_of, stamp_of_phase, fixed_stamp, waits_at, is_pending, phase_uncommitted, is_uncommitted, is_accepted_place}
-use Rattle.b1_shape.specs.References.{may_owe}
-use Rattle.b1_shape.specs.Sends.{SendShape}
-use Rattle.b1_shape.specs.Stamps.{WasCommitted, is_committing, is_committing_notices}
-use Rattle.b1_shape.specs.Notices.{IsDestruction, DestructionShape}
-use Rattle.b1_shape.specs.Bounds.{call_bound}
+use Rattle.b1_inv.specs.Words.{IsPeer, IsDriver, phase_of, stamp_of_phase, fixed_stamp, waits_at, is_pending, phase_uncommitted, is_uncommitted, is_accepted_place}
+use Rattle.b1_inv.specs.References.{may_owe}
+use Rattle.b1_inv.specs.Sends.{SendShape}
+use Rattle.b1_inv.specs.Stamps.{WasCommitted, is_committing, is_committing_notices}
+use Rattle.b1_inv.specs.Notices.{IsDestruction, DestructionShape}
+use Rattle.b1_inv.specs.Bounds.{call_bound}
 use Rattle.b1_core.specs.Events.{open_in, ClocksAllowed, BeginDestroyAllowed, RecvAllowed, AllowedOf, Allowed}
-use Rattle.b1_parts.specs.PeerOk.{PeerOk}
+use Rattle.b1_inv_peer.specs.PeerOk.{PeerOk}
 use Rattle.b1_core.specs.Sound.{Sound}
 use Rattle.b1_core.proofs.Opened.{Opened, begins, opened}
 use Rattle.b1_core.proofs.Does.{open_is}

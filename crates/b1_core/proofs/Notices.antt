@@ -25,17 +25,17 @@ use Rattle.b1_model.specs.MachineEvents.{collected_of, doomed_of}
 use Rattle.b1_step.specs.Rights.{Has}
 use Rattle.b1_step.specs.Ordered.{NewKey}
 use Rattle.b1_step.proofs.Lists.{filter_has}
-use Rattle.b1_shape.specs.Words.{IsPeer, IsDriver, waits_at, is_among, is_uncommitted, fixed_stamp}
-use Rattle.b1_shape.specs.Stamps.{WasCommitted}
-use Rattle.b1_shape.specs.Notices.{Apart, AreOthers, IsDestruction, doomed_now}
-use Rattle.b1_parts.specs.PeerOk.{PeerOk, count, is_notice_for}
-use Rattle.b1_parts.specs.Needs.{AreDying}
-use Rattle.b1_mail.specs.Mail.{Every, DistinctIndexes}
+use Rattle.b1_inv.specs.Words.{IsPeer, IsDriver, waits_at, is_among, is_uncommitted, fixed_stamp}
+use Rattle.b1_inv.specs.Stamps.{WasCommitted}
+use Rattle.b1_inv.specs.Notices.{Apart, AreOthers, IsDestruction, doomed_now}
+use Rattle.b1_inv_peer.specs.PeerOk.{PeerOk, count, is_notice_for}
+use Rattle.b1_inv_peer.specs.Needs.{AreDying}
+use Rattle.b1_peer_queue.specs.Mail.{Every, DistinctIndexes}
 use Rattle.b1_model.specs.MachineSend.{with_stamp}
 use Rattle.b1_core.specs.Events.{NoticesAllowed, StampDestroyAllowed, VisitAllowed}
 use Rattle.b1_core.specs.Sound.{Sound}
 use Rattle.b1_core.proofs.Bounds.{IsShort}
-use Rattle.b1_parts.proofs.Counts.{count_cons, has_count}
+use Rattle.b1_inv_peer.proofs.Counts.{count_cons, has_count}
 use Rattle.b1_core.proofs.Facts.{new_key, driver_same, odd_behind}
 use Rattle.b1_core.proofs.Allowed.{driver_me, clock, stamp_clock, collected, free, committed_with}
 

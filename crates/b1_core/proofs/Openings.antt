@@ -15,7 +15,7 @@ use Rattle.b1_model.specs.declared.naming.Opening.{Opening}
 use Rattle.b1_model.specs.Opening.{IsOpening}
 use Rattle.b1_model.specs.MachineParts.{PeerPart, DriverPart, State}
 use Rattle.b1_model.specs.MachineStep.{Reached, no_peer, with_part, wire_made, wire_counted, wire_held, wired, peer_before, peers_before, idle_driver, idle_drivers, opening_state}
-use Rattle.b1_shape.specs.Bounds.{call_bound}
+use Rattle.b1_inv.specs.Bounds.{call_bound}
 use Rattle.b1_driver.specs.Parts.{Driver}
 use Rattle.b1_peer.specs.Seen.{PeerSeen}
 use Rattle.b1_core.specs.Events.{HasUsers}

@@ -24,7 +24,7 @@ use Rattle.b1_core.specs.declared.turn.Turn.TheVariants as turn
 use Rattle.b1_core.specs.Events.{Allowed, Does, HasStock, HasUsers}
 use Rattle.b1_core.specs.Turns.{Stands, StandsBehind, driver_at}
 use Rattle.b1_core.specs.Bus.{state_of, call_limit, IsStocked, AreStocked, Begins, IsStep}
-use Rattle.b1_parts.specs.PeerOk.{PeerOk}
+use Rattle.b1_inv_peer.specs.PeerOk.{PeerOk}
 use Rattle.b1_core.specs.Sound.{Sound}
 use Rattle.b1_core.proofs.Opened.{begins, opened, begun_step, target_is}
 use Rattle.b1_core.proofs.Attempts.{reached_shown, step_leaves}

@@ -18,7 +18,7 @@ use Rattle.b1_model.specs.MachineDriver.{node_of_place, next_action, send_of}
 use Rattle.b1_model.specs.MachineEvents.{begun_of, slots_at, collected_of, doomed_of, begin_serials, happens}
 use Rattle.b1_model.specs.MachineStep.{LocalStep}
 use Rattle.b1_step.specs.Ordered.{NewKey}
-use Rattle.b1_parts.specs.Needs.{IsClock, SlotsFit, CommitsAnew, StagesAnew, VisitsAnew, ReleasesAnew, HeldFew, AreDying}
+use Rattle.b1_inv_peer.specs.Needs.{IsClock, SlotsFit, CommitsAnew, StagesAnew, VisitsAnew, ReleasesAnew, HeldFew, AreDying}
 use Rattle.b1_peer.specs.Notices.{NoticesFit}
 use Rattle.b1_peer.specs.Seen.{PeerSeen}
 use Rattle.std.specs.List.{list_any}

@@ -3,7 +3,7 @@ use Rattle.std.specs.Prelude.{◌≡◌, ◌≢◌, ℕ, AllPairs, Some, filter,
 use Rattle.b1_model.specs.declared.naming.Opening.{Opening}
 use Rattle.b1_model.specs.MachineParts.{PeerPart, State}
 use Rattle.b1_model.specs.MachineTables.{is_staged_notice}
-use Rattle.b1_shape.specs.Sound.{IsSound}
+use Rattle.b1_inv.specs.Sound.{IsSound}
 
 -- a reached state: what holds of all parts together, and that the notices staged for a peer's own nodes have places of their own
 pub record Sound (o : Opening) (s : State) : Type 0 where

@@ -6,7 +6,7 @@ ghost use Rattle.b1_model.specs.declared.events.Action.TheVariants as act;
 ghost use Rattle.b1_model.specs.declared.events.Outcome.TheVariants as out;
 ghost use Rattle.b1_model.specs.MachineDriver.{next_action};
 ghost use Rattle.b1_model.specs.MachineEvents.{begin_refusal, begin_serials, destroy_by, limits_after};
-ghost use Rattle.b1_parts.specs.Needs.{IsClock, StagesAnew};
+ghost use Rattle.b1_inv_peer.specs.Needs.{IsClock, StagesAnew};
 ghost use Rattle.b1_core.specs.Events.{numbers_in, open_in, Allowed, Does};
 
 use b1_driver::DriverState;

@@ -6,7 +6,7 @@ ghost use Rattle.b1_heap.specs.Heap.{AreApart, IsHeap, IsIndexed, parent};
 ghost use Rattle.b1_heap.specs.Sift.{IsLeastChild, MovesAt, RisesAt, SinksAt};
 
 use b1_model::{Key, key_cmp};
-use b1_steps::Steps;
+use b1_cost::Steps;
 use std::sync::ledger::{Blank, Ledger};
 
 // Whether the first key stands before the second. It is the only comparison of keys, and takes a step.

@@ -5,7 +5,7 @@ ghost use Rattle.std.specs.Prelude.{◌≡◌, ℕ, ◌+◌, ◌<◌, ◌≤◌,
 use crate::heap::IndexedHeap;
 use b1_model::Key;
 use b1_queue::{PlainQueue, QueueKind};
-use b1_steps::Steps;
+use b1_cost::Steps;
 use std::alloc::AllocError;
 use std::marker::Brand;
 use std::sync::ledger::{Blank, Ledger};

@@ -16,10 +16,10 @@ use Rattle.b1_model.specs.MachineTook.{with_facts, driver_calls}
 use Rattle.b1_model.specs.MachineEvents.{happens}
 use Rattle.b1_model.specs.MachineStep.{Step}
 use Rattle.b1_step.proofs.Locality.{step_adds}
-use Rattle.b1_shape.specs.Words.{IsDriver}
-use Rattle.b1_shape.specs.Sends.{SendShape}
-use Rattle.b1_shape.specs.Bounds.{calls_begun, attaches, attach_bound}
-use Rattle.b1_shape.specs.Sound.{IsSound}
+use Rattle.b1_inv.specs.Words.{IsDriver}
+use Rattle.b1_inv.specs.Sends.{SendShape}
+use Rattle.b1_inv.specs.Bounds.{calls_begun, attaches, attach_bound}
+use Rattle.b1_inv.specs.Sound.{IsSound}
 use Rattle.b1_inv_tools.proofs.Leaves.{Did, step_did}
 use Rattle.b1_inv_refs.proofs.Kept.{accepted_within}
 use Rattle.b1_inv_refs.proofs.Counting.{next_of, next_owed, is_open, shape}

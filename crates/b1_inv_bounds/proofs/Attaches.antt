@@ -23,8 +23,8 @@ use Rattle.b1_model.specs.declared.events.OwedDrop.{OwedDrop}
 use Rattle.b1_model.specs.MachineParts.{DriverPart, State}
 use Rattle.b1_model.specs.MachineDriver.{next_accepted, accepted_from, is_place, Turn, Goes, Ends, turn, started, staging, unstaging, place_done, all_staged, all_refused, attaching, with_slot, syncing, visiting, with_visit, syncing_notices, committing_notices, destroying, is_flushing, send_of}
 use Rattle.b1_model.specs.MachineTook.{is_await, call_of, as_call, goes_by, is_done, answer_of, turned, fixed_call, open_by, sent_answer}
-use Rattle.b1_shape.specs.Sends.{SendShape}
-use Rattle.b1_shape.specs.Bounds.{attaches, attach_bound}
+use Rattle.b1_inv.specs.Sends.{SendShape}
+use Rattle.b1_inv.specs.Bounds.{attaches, attach_bound}
 use Rattle.b1_inv_refs.proofs.Kept.{accepted_within}
 use Rattle.b1_inv_bounds.proofs.Begun.{turn_calls, by_answer}
 

@@ -20,11 +20,11 @@ use Rattle.b1_model.specs.MachineEvents.{happens}
 use Rattle.b1_model.specs.MachineStep.{Step}
 use Rattle.b1_step.specs.Fixed.{AtMostOneMore}
 use Rattle.b1_step.proofs.Locality.{step_adds}
-use Rattle.b1_shape.specs.Words.{IsPeer}
-use Rattle.b1_shape.specs.Sends.{SendShape, IsSend}
-use Rattle.b1_shape.specs.Notices.{DestructionShape, IsDestroying}
-use Rattle.b1_shape.specs.Bounds.{calls_begun}
-use Rattle.b1_shape.specs.Sound.{IsSound}
+use Rattle.b1_inv.specs.Words.{IsPeer}
+use Rattle.b1_inv.specs.Sends.{SendShape, IsSend}
+use Rattle.b1_inv.specs.Notices.{DestructionShape, IsDestroying}
+use Rattle.b1_inv.specs.Bounds.{calls_begun}
+use Rattle.b1_inv.specs.Sound.{IsSound}
 use Rattle.b1_inv_tools.proofs.Leaves.{Did, step_did}
 use Rattle.b1_inv_refs.proofs.Places.{part_there}
 

@@ -28,10 +28,10 @@ use Rattle.b1_step.specs.Rights.{Has, may_be_elsewhere}
 use Rattle.b1_step.proofs.Lists.{sum_set}
 use Rattle.b1_step.proofs.Locality.{own_place}
 use Rattle.b1_step.proofs.Orders.{find_has}
-use Rattle.b1_shape.specs.Words.{IsPeer, IsDriver}
-use Rattle.b1_shape.specs.Sends.{SendShape}
-use Rattle.b1_shape.specs.Bounds.{calls_begun, call_bound, all_calls_bound, attach_bound, all_attaches_bound, BoundsRight}
-use Rattle.b1_shape.specs.Sound.{IsSound}
+use Rattle.b1_inv.specs.Words.{IsPeer, IsDriver}
+use Rattle.b1_inv.specs.Sends.{SendShape}
+use Rattle.b1_inv.specs.Bounds.{calls_begun, call_bound, all_calls_bound, attach_bound, all_attaches_bound, BoundsRight}
+use Rattle.b1_inv.specs.Sound.{IsSound}
 use Rattle.b1_inv_tools.proofs.Leaves.{Did, step_did, driver_cases, peer_cases}
 use Rattle.b1_inv_tools.proofs.Comes.{Comes, ComesOrWas, queue_comes}
 use Rattle.b1_inv_refs.proofs.Flights.{slots_carry}

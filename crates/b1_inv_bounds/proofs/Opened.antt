@@ -12,7 +12,7 @@ use Rattle.b1_model.specs.MachineParts.{PeerPart, HandleRecord, no_node, node_at
 use Rattle.b1_model.specs.MachineTables.{count_of, with_made, counted, more_held, next_number, node_named}
 use Rattle.b1_model.specs.MachineStep.{no_peer, with_part, wire_made, wire_counted, wire_held, wired, peer_before, peers_before, opening_state}
 use Rattle.b1_step.specs.Rights.{Has}
-use Rattle.b1_shape.specs.Bounds.{BoundsRight}
+use Rattle.b1_inv.specs.Bounds.{BoundsRight}
 use Rattle.b1_inv_refs.proofs.Numbered.{WasOrMade, made_has}
 use Rattle.b1_inv_refs.proofs.Counts.{made_counts}
 use Rattle.b1_inv_refs.proofs.Wiring.{read_part, back}

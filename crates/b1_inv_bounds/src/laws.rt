@@ -4,8 +4,8 @@ ghost use Rattle.b1_model.specs.declared.commands.Command.{Command};
 ghost use Rattle.b1_model.specs.MachineParts.{State};
 ghost use Rattle.b1_model.specs.MachineStep.{Step, opening_state};
 ghost use Rattle.b1_model.specs.Opening.{IsOpening};
-ghost use Rattle.b1_shape.specs.Bounds.{BoundsRight};
-ghost use Rattle.b1_shape.specs.Sound.{IsSound};
+ghost use Rattle.b1_inv.specs.Bounds.{BoundsRight};
+ghost use Rattle.b1_inv.specs.Sound.{IsSound};
 
 /// A step keeps the bounds of nodes, given numbers, held handles and counts by the wires and the calls, and every bus
 /// begins so.

@@ -29,7 +29,7 @@ use Rattle.b1_model.specs.MachineDriver.{peer_of, send_of}
 use Rattle.b1_model.specs.MachineEvents.{happens, begin_by, stage_by, destroy_by, begin_refusal, begin_serials, collected_of, doomed_of, number_of}
 use Rattle.b1_step.specs.Rights.{Has}
 use Rattle.b1_step.proofs.Changed.{changes}
-use Rattle.b1_shape.specs.Clocks.{IsClock}
+use Rattle.b1_inv.specs.Clocks.{IsClock}
 use Rattle.b1_inv_notices.proofs.Sets.{in_or_not, has_index, has_at_place}
 use Rattle.b1_inv_notices.proofs.Nodes.{NodesKept, nodes_kept, doomed_length, doomed_state, undoomed_state}
 use Rattle.b1_inv_notices.proofs.StampTurns.{Gave}

@@ -24,8 +24,8 @@ use Rattle.b1_model.specs.MachineDriver.{accepted_from, is_place, attaching, wit
 use Rattle.b1_model.specs.MachineTook.{drops_of, cancelled_drops, owed_after, goes_by, is_done, answer_of, turned, with_facts, took}
 use Rattle.b1_model.specs.MachineEvents.{collected_of}
 use Rattle.b1_step.specs.Rights.{Has}
-use Rattle.b1_shape.specs.Words.{stamp_of_phase}
-use Rattle.b1_shape.specs.Clocks.{IsClock, can_be_stamped}
+use Rattle.b1_inv.specs.Words.{stamp_of_phase}
+use Rattle.b1_inv.specs.Clocks.{IsClock, can_be_stamped}
 use Rattle.b1_inv_notices.proofs.Turns.{doing_in, opened, OnTurn, may_end}
 use Rattle.b1_inv_notices.proofs.Sets.{drop_has}
 

@@ -12,8 +12,8 @@ use Rattle.b1_model.specs.MachineParts.{PeerPart, DriverPart, NodePart, no_node,
 use Rattle.b1_model.specs.MachineTables.{counted, with_made}
 use Rattle.b1_model.specs.MachineStep.{opening_state, wire_made, wire_counted, wire_held}
 use Rattle.b1_step.specs.Rights.{Has}
-use Rattle.b1_shape.specs.Words.{IsPeer, fixed_stamp, stamp_of_phase}
-use Rattle.b1_shape.specs.Clocks.{ClocksRight, IsClock, clock_bound}
+use Rattle.b1_inv.specs.Words.{IsPeer, fixed_stamp, stamp_of_phase}
+use Rattle.b1_inv.specs.Clocks.{ClocksRight, IsClock, clock_bound}
 use Rattle.b1_inv_tools.proofs.Openings.{opening_each, opening_idle}
 use Rattle.b1_inv_notices.proofs.Sets.{has_index, has_at_place}
 use Rattle.b1_inv_notices.proofs.Nodes.{NodesKept, node_kept, made_kept}

@@ -22,9 +22,9 @@ use Rattle.b1_model.specs.MachineEvents.{collected_of}
 use Rattle.b1_model.specs.MachineStep.{Step}
 use Rattle.b1_step.specs.Rights.{Has}
 use Rattle.b1_step.proofs.Locality.{clocks_rise, as_many_peers}
-use Rattle.b1_shape.specs.Words.{IsPeer, stamp_of_phase, fixed_stamp}
-use Rattle.b1_shape.specs.Clocks.{ClocksRight, IsClock, can_be_stamped, has_unstamped, spent, all_spent, clock_bound}
-use Rattle.b1_shape.specs.Sound.{IsSound}
+use Rattle.b1_inv.specs.Words.{IsPeer, stamp_of_phase, fixed_stamp}
+use Rattle.b1_inv.specs.Clocks.{ClocksRight, IsClock, can_be_stamped, has_unstamped, spent, all_spent, clock_bound}
+use Rattle.b1_inv.specs.Sound.{IsSound}
 use Rattle.b1_inv_tools.proofs.Leaves.{driver_cases, peer_cases, new_peer}
 use Rattle.b1_inv_notices.proofs.Turns.{opened, answered, OnTurn, took_leaves, parts, going, going_doing, going_action, going_answer, ActionStamp, action_stamp, get_there}
 use Rattle.b1_inv_notices.proofs.StampTurns.{Gave}

@@ -4,7 +4,7 @@ use Rattle.std.specs.Prelude.{slice_get}
 use Rattle.std.proofs.lemmas.Bool.{leb-true, le-leb}
 use native.Mathlib.Omega.{arith}
 use Rattle.b1_model.specs.MachineParts.{PeerPart, DriverPart, clock_limit}
-use Rattle.b1_shape.specs.Clocks.{has_unstamped, spent, all_spent}
+use Rattle.b1_inv.specs.Clocks.{has_unstamped, spent, all_spent}
 
 some_one : {A : Type 0} (x y : A) → Some x ≡ Some y → x ≡ y
 some_one x y same = cc same

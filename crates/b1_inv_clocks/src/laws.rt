@@ -5,8 +5,8 @@ ghost use Rattle.b1_model.specs.declared.commands.Command.{Command};
 ghost use Rattle.b1_model.specs.Opening.{IsOpening};
 ghost use Rattle.b1_model.specs.MachineParts.{State};
 ghost use Rattle.b1_model.specs.MachineStep.{Step, opening_state};
-ghost use Rattle.b1_shape.specs.Clocks.{ClocksRight};
-ghost use Rattle.b1_shape.specs.Sound.{IsSound};
+ghost use Rattle.b1_inv.specs.Clocks.{ClocksRight};
+ghost use Rattle.b1_inv.specs.Sound.{IsSound};
 
 /// Every bus begins with its clocks right, and a step keeps them so: the clocks of peers, the clocks collected, the fixed
 /// stamps, the clocks of owed drops and the stamps of destroyed nodes are even, and at most 2^62 and two for each driver

@@ -17,8 +17,8 @@ use Rattle.b1_model.specs.declared.events.Sending.{Sending}
 use Rattle.b1_model.specs.MachineParts.{is_data}
 use Rattle.b1_model.specs.MachineDriver.{accepted_from, committing_notices, is_flushing, turn, Goes, Ends}
 use Rattle.b1_step.specs.Rights.{Has}
-use Rattle.b1_shape.specs.Words.{is_accepted_place, stamp_of_phase}
-use Rattle.b1_shape.specs.Stamps.{is_committing, is_committing_notices}
+use Rattle.b1_inv.specs.Words.{is_accepted_place, stamp_of_phase}
+use Rattle.b1_inv.specs.Stamps.{is_committing, is_committing_notices}
 use Rattle.b1_inv_notices.proofs.Turns.{doing_in, OnTurn, may_end}
 use Rattle.b1_inv_notices.proofs.Sets.{not_among, not_has, drop_more_has}
 use Rattle.b1_inv_notices.proofs.StampTurns.{fixed_in, Gave, on_map, SameOr, stamp_turn, WasDone, NotAhead, later_waits}

@@ -23,7 +23,7 @@ use Rattle.b1_model.specs.MachineDriver.{next_action, peer_of, visiting, with_vi
 use Rattle.b1_model.specs.MachineTook.{took}
 use Rattle.b1_model.specs.MachineEvents.{doomed_of}
 use Rattle.b1_step.specs.Rights.{Has}
-use Rattle.b1_shape.specs.Words.{staged_peers, phase_uncommitted}
+use Rattle.b1_inv.specs.Words.{staged_peers, phase_uncommitted}
 use Rattle.b1_inv_notices.proofs.Turns.{doing_in, opened, answered, OnTurn, may_end, took_leaves}
 use Rattle.b1_inv_notices.proofs.Sets.{among_has, has_among, has_with_peer, has_drop_more, some_left}
 

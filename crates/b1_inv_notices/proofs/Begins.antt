@@ -10,9 +10,9 @@ use Rattle.b1_model.specs.MachineParts.{PeerPart, DriverPart, NodePart, is_dying
 use Rattle.b1_model.specs.MachineTables.{counted, with_made}
 use Rattle.b1_model.specs.MachineStep.{opening_state, wire_made, wire_counted, wire_held}
 use Rattle.b1_step.specs.Rights.{Has}
-use Rattle.b1_shape.specs.Words.{IsPeer, IsDriver, fixed_stamp, stamp_of_phase}
-use Rattle.b1_shape.specs.Notices.{NoticesRight, AreOthers}
-use Rattle.b1_shape.specs.Stamps.{StampsRight}
+use Rattle.b1_inv.specs.Words.{IsPeer, IsDriver, fixed_stamp, stamp_of_phase}
+use Rattle.b1_inv.specs.Notices.{NoticesRight, AreOthers}
+use Rattle.b1_inv.specs.Stamps.{StampsRight}
 use Rattle.b1_inv_tools.proofs.Openings.{opening_each, opening_idle}
 use Rattle.b1_inv_notices.proofs.Sets.{others_none}
 use Rattle.b1_inv_notices.proofs.Nodes.{NodesKept, node_kept, made_kept}

@@ -27,7 +27,7 @@ use Rattle.b1_model.specs.MachineTook.{took}
 use Rattle.b1_model.specs.MachineEvents.{happens, destroy_by, begin_refusal, begin_serials}
 use Rattle.b1_step.specs.Rights.{Has}
 use Rattle.b1_step.proofs.Orders.{find_has}
-use Rattle.b1_shape.specs.Words.{stamp_of_phase}
+use Rattle.b1_inv.specs.Words.{stamp_of_phase}
 use Rattle.b1_inv_tools.proofs.Comes.{Comes, leaves, queue_comes}
 use Rattle.b1_inv_notices.proofs.Turns.{doing_in, opened, answered, OnTurn}
 use Rattle.b1_inv_notices.proofs.Sets.{has_peer_new}

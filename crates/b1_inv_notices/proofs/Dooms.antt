@@ -14,7 +14,7 @@ use Rattle.b1_model.specs.MachineDestroy.{doom_by, doom_answer, doomed_part, vis
 use Rattle.b1_model.specs.MachineDriver.{turn}
 use Rattle.b1_model.specs.MachineEvents.{destroy_by}
 use Rattle.b1_step.specs.Rights.{Has}
-use Rattle.b1_shape.specs.Notices.{Apart, AreOthers, IsDestroying, IsDestruction, DestructionShape}
+use Rattle.b1_inv.specs.Notices.{Apart, AreOthers, IsDestroying, IsDestruction, DestructionShape}
 use Rattle.b1_inv_notices.proofs.Turns.{doing_in, OnTurn}
 use Rattle.b1_inv_notices.proofs.Sets.{in_or_not, others_none}
 use Rattle.b1_inv_notices.proofs.Nodes.{nodes_same, doomed_length, doomed_state, undoomed_state}

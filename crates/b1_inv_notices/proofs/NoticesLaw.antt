@@ -19,9 +19,9 @@ use Rattle.b1_step.specs.Rights.{Has}
 use Rattle.b1_step.specs.Fixed.{IsNumbered}
 use Rattle.b1_step.proofs.Locality.{step_grows}
 use Rattle.b1_step.proofs.Numbers.{step_numbered}
-use Rattle.b1_shape.specs.Words.{IsPeer, IsDriver, stamp_of_phase}
-use Rattle.b1_shape.specs.Notices.{NoticesRight, NoticeShape, DestructionShape}
-use Rattle.b1_shape.specs.Sound.{IsSound}
+use Rattle.b1_inv.specs.Words.{IsPeer, IsDriver, stamp_of_phase}
+use Rattle.b1_inv.specs.Notices.{NoticesRight, NoticeShape, DestructionShape}
+use Rattle.b1_inv.specs.Sound.{IsSound}
 use Rattle.b1_inv_tools.proofs.Comes.{leaves}
 use Rattle.b1_inv_tools.proofs.Leaves.{driver_cases, peer_cases}
 use Rattle.b1_inv_notices.proofs.Turns.{parts, going, going_doing, going_action, going_answer, get_there}

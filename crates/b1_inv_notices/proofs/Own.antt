@@ -17,7 +17,7 @@ use Rattle.b1_model.specs.MachineParts.{PeerPart, is_dying, node_at}
 use Rattle.b1_model.specs.MachineTables.{with_peer}
 use Rattle.b1_model.specs.MachineDriver.{visiting, with_visit, syncing_notices, committing_notices, is_flushing, turn, Turn, Goes, Ends}
 use Rattle.b1_step.specs.Rights.{Has}
-use Rattle.b1_shape.specs.Notices.{AreOthers, IsDestroying, IsDestruction, DestructionShape, dying_of}
+use Rattle.b1_inv.specs.Notices.{AreOthers, IsDestroying, IsDestruction, DestructionShape, dying_of}
 use Rattle.b1_inv_notices.proofs.Turns.{doing_in, OnTurn, may_end}
 use Rattle.b1_inv_notices.proofs.Calm.{is_destroying, begins_destroying, IsCalm, calm_turn}
 use Rattle.b1_inv_notices.proofs.Sets.{has_at_place, others_with, others_drop}

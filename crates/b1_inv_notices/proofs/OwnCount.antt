@@ -26,10 +26,10 @@ use Rattle.b1_model.specs.MachineTook.{place_references}
 use Rattle.b1_model.specs.MachineCounts.{amount_in, queue_amount, dead_amount, peer_amount, owed_amount, kept_from, kept_amount, driver_amount, fresh}
 use Rattle.b1_step.specs.Rights.{Has}
 use Rattle.b1_step.proofs.Orders.{same_ref_is}
-use Rattle.b1_shape.specs.Words.{IsPeer, IsDriver, is_accepted_place}
-use Rattle.b1_shape.specs.Sends.{IsFilled, IsBefore, IsSending, SendShape}
-use Rattle.b1_shape.specs.References.{AreFilled}
-use Rattle.b1_shape.specs.Sound.{IsSound}
+use Rattle.b1_inv.specs.Words.{IsPeer, IsDriver, is_accepted_place}
+use Rattle.b1_inv.specs.Sends.{IsFilled, IsBefore, IsSending, SendShape}
+use Rattle.b1_inv.specs.References.{AreFilled}
+use Rattle.b1_inv.specs.Sound.{IsSound}
 use Rattle.b1_inv_notices.proofs.Sets.{has_index}
 
 sum_none : {X : Type 0} (f : X → ℕ) (xs : List X) → ((x : X) → Has xs x → f x ≡ 0) → sum_by f xs ≡ 0

@@ -32,10 +32,10 @@ use Rattle.b1_model.specs.MachineStep.{Step}
 use Rattle.b1_step.specs.Rights.{Has, Changes}
 use Rattle.b1_step.proofs.Changed.{changes}
 use Rattle.b1_step.proofs.Numbers.{changes_fixed}
-use Rattle.b1_shape.specs.Words.{IsPeer, IsDriver, IsMade, is_accepted_place}
-use Rattle.b1_shape.specs.Notices.{Apart, AreOthers, IsDestroying}
-use Rattle.b1_shape.specs.Sends.{SendShape}
-use Rattle.b1_shape.specs.Sound.{IsSound}
+use Rattle.b1_inv.specs.Words.{IsPeer, IsDriver, IsMade, is_accepted_place}
+use Rattle.b1_inv.specs.Notices.{Apart, AreOthers, IsDestroying}
+use Rattle.b1_inv.specs.Sends.{SendShape}
+use Rattle.b1_inv.specs.Sound.{IsSound}
 use Rattle.b1_inv_tools.proofs.Leaves.{driver_cases, peer_cases}
 use Rattle.b1_inv_notices.proofs.Turns.{doing_in, opened, answered, took_leaves, parts}
 use Rattle.b1_inv_notices.proofs.Calm.{is_destroying}

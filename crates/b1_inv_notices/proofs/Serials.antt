@@ -15,7 +15,7 @@ use Rattle.b1_model.specs.MachineSend.{first_reason}
 use Rattle.b1_model.specs.MachineDestroy.{has_repeat, is_bad_destroy, live_serial, destroy_refusal, destroy_serials, live_serials, reset_serials, visit_set}
 use Rattle.b1_step.specs.Rights.{Has}
 use Rattle.b1_step.proofs.Lists.{filter_has}
-use Rattle.b1_shape.specs.Notices.{Rises, Apart, AreOthers}
+use Rattle.b1_inv.specs.Notices.{Rises, Apart, AreOthers}
 use Rattle.b1_inv_notices.proofs.Sets.{above_all, not_has, rises_apart, rises_filter, rises_range, range_has}
 
 -- ---- live nodes in rising order

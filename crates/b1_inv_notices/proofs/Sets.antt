@@ -7,8 +7,8 @@ use native.Mathlib.Omega.{arith}
 use Rattle.b1_model.specs.MachineTables.{with_peer}
 use Rattle.b1_step.specs.Rights.{Has}
 use Rattle.b1_step.proofs.Lists.{filter_has}
-use Rattle.b1_shape.specs.Words.{is_among}
-use Rattle.b1_shape.specs.Notices.{AllAbove, Rises, Apart, AreOthers}
+use Rattle.b1_inv.specs.Words.{is_among}
+use Rattle.b1_inv.specs.Notices.{AllAbove, Rises, Apart, AreOthers}
 
 -- ---- elements
 

@@ -20,8 +20,8 @@ use Rattle.b1_model.specs.declared.events.Destruction.{Destruction}
 use Rattle.b1_model.specs.declared.events.Sending.{Sending}
 use Rattle.b1_model.specs.MachineParts.{is_data}
 use Rattle.b1_model.specs.MachineDriver.{next_accepted, accepted_from, is_place, attaching, with_slot, all_staged, staging, all_refused, unstaging, syncing, visiting, with_visit, syncing_notices, committing_notices, destroying, is_flushing, send_of, place_done, started, turn, Turn, Goes, Ends}
-use Rattle.b1_shape.specs.Words.{is_accepted_place, stamp_of_phase, waits_at, phase_uncommitted}
-use Rattle.b1_shape.specs.Stamps.{is_committing, is_committing_notices}
+use Rattle.b1_inv.specs.Words.{is_accepted_place, stamp_of_phase, waits_at, phase_uncommitted}
+use Rattle.b1_inv.specs.Stamps.{is_committing, is_committing_notices}
 use Rattle.b1_inv_notices.proofs.Turns.{doing_in, OnTurn, may_end}
 
 -- the fixed stamp of what is open

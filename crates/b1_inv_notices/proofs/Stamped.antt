@@ -28,8 +28,8 @@ use Rattle.b1_model.specs.MachineTook.{took}
 use Rattle.b1_model.specs.MachineEvents.{happens, begin_by, stage_by, destroy_by, begin_refusal, begin_serials, collected_of, doomed_of}
 use Rattle.b1_step.specs.Rights.{Has}
 use Rattle.b1_step.proofs.Orders.{find_has}
-use Rattle.b1_shape.specs.Words.{stamp_of_phase}
-use Rattle.b1_shape.specs.Notices.{DestructionShape}
+use Rattle.b1_inv.specs.Words.{stamp_of_phase}
+use Rattle.b1_inv.specs.Notices.{DestructionShape}
 use Rattle.b1_inv_tools.proofs.Comes.{Comes}
 use Rattle.b1_inv_notices.proofs.Turns.{doing_in, opened, answered, OnTurn, took_leaves}
 use Rattle.b1_inv_notices.proofs.Sets.{place_once}

@@ -13,10 +13,10 @@ use Rattle.b1_model.specs.MachineParts.{PeerPart, DriverPart, State, no_origin, 
 use Rattle.b1_model.specs.MachineStep.{Step}
 use Rattle.b1_step.specs.Rights.{Has}
 use Rattle.b1_step.proofs.Locality.{step_grows, clocks_rise}
-use Rattle.b1_shape.specs.Words.{IsPeer, IsDriver, stamp_of_phase, fixed_stamp, waits_at, phase_uncommitted}
-use Rattle.b1_shape.specs.Notices.{DestructionShape}
-use Rattle.b1_shape.specs.Stamps.{StampsRight, IsStampOf, WasCommitted}
-use Rattle.b1_shape.specs.Sound.{IsSound}
+use Rattle.b1_inv.specs.Words.{IsPeer, IsDriver, stamp_of_phase, fixed_stamp, waits_at, phase_uncommitted}
+use Rattle.b1_inv.specs.Notices.{DestructionShape}
+use Rattle.b1_inv.specs.Stamps.{StampsRight, IsStampOf, WasCommitted}
+use Rattle.b1_inv.specs.Sound.{IsSound}
 use Rattle.b1_inv_tools.proofs.Comes.{queue_comes}
 use Rattle.b1_inv_tools.proofs.Leaves.{driver_cases, peer_cases, new_driver, same_driver, new_peer, same_peer}
 use Rattle.b1_inv_notices.proofs.Turns.{took_leaves, parts, going, going_doing, going_action, going_answer, get_there}

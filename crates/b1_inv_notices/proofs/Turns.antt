@@ -19,7 +19,7 @@ use Rattle.b1_model.specs.MachineTook.{goes_by, is_done, answer_of, turned, with
 use Rattle.b1_model.specs.MachineEvents.{happens}
 use Rattle.b1_model.specs.MachineStep.{Step, begun_by, aimed, effect_by}
 use Rattle.b1_step.specs.Rights.{Has}
-use Rattle.b1_shape.specs.Words.{stamp_of_phase}
+use Rattle.b1_inv.specs.Words.{stamp_of_phase}
 
 -- a command in a phase
 abbrev pub doing_in : Command → Phase → Doing

@@ -5,9 +5,9 @@ ghost use Rattle.b1_model.specs.declared.commands.Command.{Command};
 ghost use Rattle.b1_model.specs.Opening.{IsOpening};
 ghost use Rattle.b1_model.specs.MachineParts.{State};
 ghost use Rattle.b1_model.specs.MachineStep.{Step, opening_state};
-ghost use Rattle.b1_shape.specs.Notices.{NoticesRight};
-ghost use Rattle.b1_shape.specs.Stamps.{StampsRight};
-ghost use Rattle.b1_shape.specs.Sound.{IsSound};
+ghost use Rattle.b1_inv.specs.Notices.{NoticesRight};
+ghost use Rattle.b1_inv.specs.Stamps.{StampsRight};
+ghost use Rattle.b1_inv.specs.Sound.{IsSound};
 
 /// Every bus begins with its destructions and notices right, and a step keeps them so: each open destruction has the
 /// shape of its phase, the nodes that are dying are those that it dooms, and each staged notice is of one that has not

@@ -17,8 +17,8 @@ use Rattle.b1_step.specs.Rights.{Has}
 use Rattle.b1_step.specs.Ordered.{Rising}
 use Rattle.b1_step.proofs.Lookups.{rising_changed}
 use Rattle.b1_step.proofs.Orders.{same_ref_is, same_ref_itself}
-use Rattle.b1_shape.specs.Sends.{IsFilled}
-use Rattle.b1_shape.specs.References.{AreFilled, times_in, carried_times}
+use Rattle.b1_inv.specs.Sends.{IsFilled}
+use Rattle.b1_inv.specs.References.{AreFilled, times_in, carried_times}
 use Rattle.b1_inv_refs.proofs.Amounts.{Items, refs_append, refs_cons, slot_amount, slots_amount, slots_cons, nothing_of, dead_with_item, entry_amount, queue_cons}
 use Rattle.b1_inv_refs.proofs.Views.{Handles, rising_unexpected, flight_less, flight_same, flight_unexpected, held_same, held_unexpected, held_more, times_cons, times_foreign}
 

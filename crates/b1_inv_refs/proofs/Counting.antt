@@ -33,11 +33,11 @@ use Rattle.b1_step.specs.Ordered.{Rising}
 use Rattle.b1_step.proofs.Lists.{sum_set}
 use Rattle.b1_step.proofs.Locality.{at_peer, other_peer}
 use Rattle.b1_step.proofs.Orders.{find_has, same_ref_itself}
-use Rattle.b1_shape.specs.Words.{IsMade, is_accepted_place, stamp_of_phase, fixed_stamp}
-use Rattle.b1_shape.specs.Sends.{SendShape}
-use Rattle.b1_shape.specs.Stages.{IsMessageOf}
-use Rattle.b1_shape.specs.References.{count_in, IsDrop}
-use Rattle.b1_shape.specs.Sound.{IsSound}
+use Rattle.b1_inv.specs.Words.{IsMade, is_accepted_place, stamp_of_phase, fixed_stamp}
+use Rattle.b1_inv.specs.Sends.{SendShape}
+use Rattle.b1_inv.specs.Stages.{IsMessageOf}
+use Rattle.b1_inv.specs.References.{count_in, IsDrop}
+use Rattle.b1_inv.specs.Sound.{IsSound}
 use Rattle.b1_inv_tools.proofs.Leaves.{Did, step_did}
 use Rattle.b1_inv_refs.proofs.Amounts.{slots_amount, slots_none, owed_cons, nothing_of}
 use Rattle.b1_inv_refs.proofs.Kept.{at_place, accepted_is, accepted_within, kept_next, kept_skip, kept_past}

@@ -20,9 +20,9 @@ use Rattle.b1_model.specs.MachineDestroy.{queued_items, held_item, held_items}
 use Rattle.b1_model.specs.MachineEvents.{happens}
 use Rattle.b1_step.specs.Rights.{Has}
 use Rattle.b1_step.proofs.Changed.{changes}
-use Rattle.b1_shape.specs.Sends.{IsFilled}
-use Rattle.b1_shape.specs.References.{AreFilled}
-use Rattle.b1_shape.specs.Numbers.{AreNumbered}
+use Rattle.b1_inv.specs.Sends.{IsFilled}
+use Rattle.b1_inv.specs.References.{AreFilled}
+use Rattle.b1_inv.specs.Numbers.{AreNumbered}
 use Rattle.b1_inv_refs.proofs.Amounts.{Refs, Items}
 use Rattle.b1_inv_refs.proofs.Arrivals.{passes, queue_parts, slots_rest}
 use Rattle.b1_inv_refs.proofs.GivenUp.{found_has, number_is}

@@ -24,8 +24,8 @@ use Rattle.b1_step.specs.Ordered.{Rising}
 use Rattle.b1_step.proofs.Queues.{sum_put}
 use Rattle.b1_step.proofs.Lookups.{rising_changed}
 use Rattle.b1_step.proofs.Changed.{changes}
-use Rattle.b1_shape.specs.Stages.{OnceEach}
-use Rattle.b1_shape.specs.References.{times_in, carried_times}
+use Rattle.b1_inv.specs.Stages.{OnceEach}
+use Rattle.b1_inv.specs.References.{times_in, carried_times}
 use Rattle.b1_inv_refs.proofs.Views.{flight_same, flight_expected, flight_unexpected, times_foreign}
 use Rattle.b1_inv_refs.proofs.Weights.{release_left, release_queued, own_notices, visit_queued, notices_restamped, stage_left}
 use Rattle.b1_inv_refs.proofs.Arrivals.{flight_in}

@@ -14,11 +14,11 @@ use Rattle.b1_model.specs.MachineEvents.{begun_of}
 use Rattle.b1_model.specs.MachineStep.{Step}
 use Rattle.b1_step.specs.Rights.{Has}
 use Rattle.b1_step.proofs.Lists.{filter_has}
-use Rattle.b1_shape.specs.Words.{IsPeer, IsMade}
-use Rattle.b1_shape.specs.Sends.{SendShape}
-use Rattle.b1_shape.specs.Numbers.{AreNumbered, NumbersRight}
-use Rattle.b1_shape.specs.References.{FlightsRight, AreFilled, carried_times}
-use Rattle.b1_shape.specs.Sound.{IsSound}
+use Rattle.b1_inv.specs.Words.{IsPeer, IsMade}
+use Rattle.b1_inv.specs.Sends.{SendShape}
+use Rattle.b1_inv.specs.Numbers.{AreNumbered, NumbersRight}
+use Rattle.b1_inv.specs.References.{FlightsRight, AreFilled, carried_times}
+use Rattle.b1_inv.specs.Sound.{IsSound}
 use Rattle.b1_inv_tools.proofs.Leaves.{Did, step_did, peer_cases}
 use Rattle.b1_inv_tools.proofs.Grows.{made_stays}
 use Rattle.b1_inv_refs.proofs.Arrivals.{flight_in}

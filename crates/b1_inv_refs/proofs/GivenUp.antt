@@ -13,7 +13,7 @@ use Rattle.b1_model.specs.MachineCounts.{amount_in, queue_amount, dead_amount}
 use Rattle.b1_step.specs.Rights.{Has}
 use Rattle.b1_step.specs.Ordered.{BehindNode, Rising}
 use Rattle.b1_step.proofs.Orders.{same_ref_is, same_ref_itself}
-use Rattle.b1_shape.specs.Numbers.{AreNumbered}
+use Rattle.b1_inv.specs.Numbers.{AreNumbered}
 use Rattle.b1_inv_refs.proofs.Amounts.{Refs, Items, dead_cons, dead_with_item, refs_cons, entry_amount, queue_cons}
 use Rattle.b1_inv_refs.proofs.Views.{Handles, or_none, view_own, view_other, unneeded_held}
 use Rattle.b1_inv_refs.proofs.Arrivals.{held_in}

@@ -16,7 +16,7 @@ use Rattle.b1_step.specs.Ordered.{Rising}
 use Rattle.b1_step.proofs.Lists.{has_at, has_filter, filter_has}
 use Rattle.b1_step.proofs.Orders.{same_ref_is}
 use Rattle.b1_step.proofs.Lookups.{rising_made}
-use Rattle.b1_shape.specs.Numbers.{AreNumbered}
+use Rattle.b1_inv.specs.Numbers.{AreNumbered}
 use Rattle.b1_inv_refs.proofs.Views.{Handles, or_none}
 use Rattle.b1_inv_refs.proofs.Arrivals.{held_in}
 use Rattle.b1_inv_refs.proofs.Numbered.{EachRecord, each_made, given_then}

@@ -13,7 +13,7 @@ use Rattle.b1_model.specs.declared.events.Sending.{Sending}
 use Rattle.b1_model.specs.MachineDriver.{node_of_place, next_accepted, accepted_from, is_place, attaching, syncing, all_staged}
 use Rattle.b1_model.specs.MachineTook.{place_references}
 use Rattle.b1_model.specs.MachineCounts.{amount_in, kept_from, kept_amount}
-use Rattle.b1_shape.specs.Words.{is_accepted_place}
+use Rattle.b1_inv.specs.Words.{is_accepted_place}
 use Rattle.b1_inv_refs.proofs.Amounts.{slots_amount, slots_cons, slot_amount, slots_unattached, slots_none}
 
 abbrev Places : Type 0

@@ -15,8 +15,8 @@ use Rattle.b1_model.specs.MachineTables.{serial_of, with_made, is_number, next_n
 use Rattle.b1_model.specs.MachineCounts.{driver_amount, peer_amount}
 use Rattle.b1_model.specs.MachineStep.{no_peer, with_part, wire_made, wire_counted, wire_held, wired, peer_before, peers_before, idle_driver, idle_drivers, opening_state}
 use Rattle.b1_step.specs.Rights.{Has}
-use Rattle.b1_shape.specs.Numbers.{NumbersRight}
-use Rattle.b1_shape.specs.References.{FlightsRight, ReferencesRight, carried_times}
+use Rattle.b1_inv.specs.Numbers.{NumbersRight}
+use Rattle.b1_inv.specs.References.{FlightsRight, ReferencesRight, carried_times}
 use Rattle.b1_inv_tools.proofs.Openings.{opening_idle}
 use Rattle.b1_inv_refs.proofs.Views.{or_none}
 use Rattle.b1_inv_refs.proofs.Arrivals.{flight_in}

@@ -29,9 +29,9 @@ use Rattle.b1_model.specs.MachineTook.{place_references}
 use Rattle.b1_model.specs.MachineEvents.{number_of, limits_after}
 use Rattle.b1_model.specs.MachineCounts.{amount_in, dead_amount, peer_amount, kept_from}
 use Rattle.b1_step.specs.Ordered.{Rising}
-use Rattle.b1_shape.specs.Words.{is_accepted_place}
-use Rattle.b1_shape.specs.Sends.{slot_of_place}
-use Rattle.b1_shape.specs.Numbers.{AreNumbered}
+use Rattle.b1_inv.specs.Words.{is_accepted_place}
+use Rattle.b1_inv.specs.Sends.{slot_of_place}
+use Rattle.b1_inv.specs.Numbers.{AreNumbered}
 use Rattle.b1_inv_refs.proofs.Amounts.{Refs, slot_amount, slots_amount, nothing_of, refs_cons, owed_cons, owed_drops, dead_append, dead_cons}
 use Rattle.b1_inv_refs.proofs.Kept.{at_place, accepted_is, slots_set, kept_filled, kept_attaching}
 use Rattle.b1_inv_refs.proofs.Arrivals.{held_in}

@@ -6,7 +6,7 @@ use Rattle.b1_model.specs.declared.naming.NodeRef.{NodeRef}
 use Rattle.b1_model.specs.MachineParts.{HandleRecord, same_ref, ref_before, record_of, record_or_none, no_record}
 use Rattle.b1_model.specs.MachineTables.{is_needed, changed, changed_or_made, more_flight, more_held, less_held, next_number}
 use Rattle.b1_step.specs.Rights.{Has}
-use Rattle.b1_shape.specs.Numbers.{WasGiven, AreNumbered}
+use Rattle.b1_inv.specs.Numbers.{WasGiven, AreNumbered}
 use Rattle.b1_inv_refs.proofs.Views.{Handles, or_none}
 
 -- ---- where a record comes from

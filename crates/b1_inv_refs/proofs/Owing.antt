@@ -23,8 +23,8 @@ use Rattle.b1_model.specs.MachineDriver.{Turn, Goes, Ends, turn, phase_action, f
 use Rattle.b1_model.specs.MachineTook.{drops_of, cancelled_drops, owed_after, is_done, answer_of, goes_by, turned}
 use Rattle.b1_model.specs.MachineEvents.{happens, begin_by, stage_by, destroy_by, begin_refusal, begin_serials, number_of}
 use Rattle.b1_step.specs.Rights.{Has}
-use Rattle.b1_shape.specs.Words.{phase_of}
-use Rattle.b1_shape.specs.References.{may_owe}
+use Rattle.b1_inv.specs.Words.{phase_of}
+use Rattle.b1_inv.specs.References.{may_owe}
 use Rattle.b1_inv_refs.proofs.Amounts.{Refs}
 
 -- ---- new drops

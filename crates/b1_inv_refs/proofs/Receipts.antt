@@ -14,7 +14,7 @@ use Rattle.b1_model.specs.MachineCounts.{dead_amount, queue_amount, peer_amount}
 use Rattle.b1_step.specs.Rights.{Has}
 use Rattle.b1_step.specs.Ordered.{Rising}
 use Rattle.b1_step.proofs.Lookups.{rising_changed}
-use Rattle.b1_shape.specs.References.{AreFilled, times_in, carried_times}
+use Rattle.b1_inv.specs.References.{AreFilled, times_in, carried_times}
 use Rattle.b1_inv_refs.proofs.Amounts.{Items, dead_with_item, entry_amount, notice_none, queue_cons, slots_amount}
 use Rattle.b1_inv_refs.proofs.Views.{held_same, flight_same}
 use Rattle.b1_inv_refs.proofs.Arrivals.{held_in, flight_in, InFlight, slots_rest, slots_rising, slots_flight, slots_held, carried_cons, queue_parts, Cleared, is_cleared}

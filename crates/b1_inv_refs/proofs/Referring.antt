@@ -30,10 +30,10 @@ use Rattle.b1_model.specs.MachineEvents.{happens, begin_by, stage_by, destroy_by
 use Rattle.b1_model.specs.MachineStep.{Step}
 use Rattle.b1_step.specs.Rights.{Has, may_be_elsewhere}
 use Rattle.b1_step.proofs.Locality.{as_many_peers, own_place}
-use Rattle.b1_shape.specs.Words.{IsPeer, IsDriver, IsMade, is_accepted_place, phase_of}
-use Rattle.b1_shape.specs.Sends.{IsFilled, IsAttached}
-use Rattle.b1_shape.specs.References.{IsDrop, ReferencesRight, may_owe}
-use Rattle.b1_shape.specs.Sound.{IsSound}
+use Rattle.b1_inv.specs.Words.{IsPeer, IsDriver, IsMade, is_accepted_place, phase_of}
+use Rattle.b1_inv.specs.Sends.{IsFilled, IsAttached}
+use Rattle.b1_inv.specs.References.{IsDrop, ReferencesRight, may_owe}
+use Rattle.b1_inv.specs.Sound.{IsSound}
 use Rattle.b1_inv_tools.proofs.Leaves.{Did, step_did, driver_cases, peer_cases}
 use Rattle.b1_inv_tools.proofs.Grows.{made_stays}
 use Rattle.b1_inv_refs.proofs.Amounts.{Refs}

@@ -9,7 +9,7 @@ use Rattle.b1_model.specs.MachineTables.{is_needed, changed, changed_or_made, mo
 use Rattle.b1_step.specs.Ordered.{Rising}
 use Rattle.b1_step.proofs.Orders.{same_ref_is}
 use Rattle.b1_step.proofs.Lookups.{kept_by, rising_changed, rising_made, other_changed, own_changed, other_made, own_made}
-use Rattle.b1_shape.specs.References.{times_in}
+use Rattle.b1_inv.specs.References.{times_in}
 
 abbrev pub Handles : Type 0
 Handles = List HandleRecord

@@ -14,7 +14,7 @@ use Rattle.b1_model.specs.MachineReceive.{with_release_notice}
 use Rattle.b1_model.specs.MachineDestroy.{with_own_notices, needs_notice, notice_by, with_foreign_notice, visited_from}
 use Rattle.b1_step.specs.Rights.{Has}
 use Rattle.b1_step.proofs.Queues.{sum_put, sum_put_all, sum_without}
-use Rattle.b1_shape.specs.Stages.{OnceEach}
+use Rattle.b1_inv.specs.Stages.{OnceEach}
 use Rattle.b1_inv_refs.proofs.Amounts.{Items, sum_left}
 
 pub release_is_notice : (serial : ℕ) (k : Key) (e : Entry) → is_release_notice serial (k, e) ≡ true → is_data e ≡ false

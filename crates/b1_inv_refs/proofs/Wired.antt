@@ -9,7 +9,7 @@ use Rattle.b1_step.specs.Rights.{Has}
 use Rattle.b1_step.specs.Ordered.{Rising}
 use Rattle.b1_step.proofs.Orders.{same_ref_is, same_ref_itself}
 use Rattle.b1_step.proofs.Lookups.{rising_made, own_made}
-use Rattle.b1_shape.specs.Numbers.{AreNumbered}
+use Rattle.b1_inv.specs.Numbers.{AreNumbered}
 use Rattle.b1_inv_refs.proofs.Views.{Handles, or_none, view_made, view_made_other}
 use Rattle.b1_inv_refs.proofs.Arrivals.{held_in}
 use Rattle.b1_inv_refs.proofs.GivenUp.{record_found, found_has}

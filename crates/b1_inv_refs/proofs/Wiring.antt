@@ -14,7 +14,7 @@ use Rattle.b1_model.specs.MachineStep.{no_peer, with_part, wire_made}
 use Rattle.b1_step.specs.Rights.{Has}
 use Rattle.b1_step.specs.Ordered.{Rising}
 use Rattle.b1_step.proofs.Lists.{read_other}
-use Rattle.b1_shape.specs.Numbers.{AreNumbered}
+use Rattle.b1_inv.specs.Numbers.{AreNumbered}
 use Rattle.b1_inv_tools.proofs.Grows.{made_grows}
 use Rattle.b1_inv_refs.proofs.Views.{Handles}
 use Rattle.b1_inv_refs.proofs.Arrivals.{held_in}

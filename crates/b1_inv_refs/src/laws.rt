@@ -4,9 +4,9 @@ ghost use Rattle.b1_model.specs.declared.commands.Command.{Command};
 ghost use Rattle.b1_model.specs.MachineParts.{State};
 ghost use Rattle.b1_model.specs.MachineStep.{Step, opening_state};
 ghost use Rattle.b1_model.specs.Opening.{IsOpening};
-ghost use Rattle.b1_shape.specs.Numbers.{NumbersRight};
-ghost use Rattle.b1_shape.specs.References.{FlightsRight, ReferencesRight};
-ghost use Rattle.b1_shape.specs.Sound.{IsSound};
+ghost use Rattle.b1_inv.specs.Numbers.{NumbersRight};
+ghost use Rattle.b1_inv.specs.References.{FlightsRight, ReferencesRight};
+ghost use Rattle.b1_inv.specs.Sound.{IsSound};
 
 /// A step keeps given numbers right, and every bus begins so: a record has a number of its own while it is held.
 pub fn numbers_stay_right()

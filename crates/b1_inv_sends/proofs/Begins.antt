@@ -19,8 +19,8 @@ use Rattle.b1_model.specs.MachineTables.{is_number, held_node, serial_of, node_n
 use Rattle.b1_model.specs.MachineSend.{first_reason, is_bad_send, is_unknown, unknown_reason, dead_reason, send_refusal, begun_part, begun_nodes}
 use Rattle.b1_step.specs.Rights.{Has}
 use Rattle.b1_step.proofs.Lists.{has_filter}
-use Rattle.b1_shape.specs.Words.{IsPeer, IsMade}
-use Rattle.b1_shape.specs.Sends.{IsBegun}
+use Rattle.b1_inv.specs.Words.{IsPeer, IsMade}
+use Rattle.b1_inv.specs.Sends.{IsBegun}
 
 -- ---- lists
 

@@ -24,7 +24,7 @@ use Rattle.b1_step.specs.Rights.{Has}
 use Rattle.b1_step.proofs.Lists.{filter_has, has_map}
 use Rattle.b1_step.proofs.Queues.{put_has, without_has}
 use Rattle.b1_step.proofs.Changed.{changes}
-use Rattle.b1_shape.specs.Stages.{OnceEach}
+use Rattle.b1_inv.specs.Stages.{OnceEach}
 use Rattle.b1_inv_tools.proofs.Received.{recv_rests}
 
 -- what a staged message of an origin and a place is

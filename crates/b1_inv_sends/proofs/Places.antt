@@ -4,7 +4,7 @@ use Rattle.std.proofs.lemmas.Bool.{leb-true, leb-false, lt-ltb, le-ltb}
 use native.Mathlib.Omega.{arith}
 use Rattle.b1_model.specs.declared.answers.Reason.{Reason}
 use Rattle.b1_model.specs.MachineDriver.{next_accepted, accepted_from, is_place}
-use Rattle.b1_shape.specs.Words.{is_accepted_place}
+use Rattle.b1_inv.specs.Words.{is_accepted_place}
 
 abbrev Places : Type 0
 Places = List (Option Reason)

@@ -18,8 +18,8 @@ use Rattle.b1_model.specs.declared.events.Sending.{Sending}
 use Rattle.b1_model.specs.MachineParts.{PeerPart, State, node_at}
 use Rattle.b1_model.specs.MachineSend.{attach_by, attach_answer}
 use Rattle.b1_model.specs.MachineDriver.{node_of_place, accepted_from, is_place, all_staged, slot_of, with_slot, attaching}
-use Rattle.b1_shape.specs.Words.{is_accepted_place}
-use Rattle.b1_shape.specs.Sends.{IsBegun, IsFilled, IsBefore, slot_of_place, IsSending, SendShape}
+use Rattle.b1_inv.specs.Words.{is_accepted_place}
+use Rattle.b1_inv.specs.Sends.{IsBegun, IsFilled, IsBefore, slot_of_place, IsSending, SendShape}
 use Rattle.b1_inv_sends.proofs.Places.{accepted_within, IsNext, next_before, next_accepted_place, none_left}
 
 -- ---- nothing is filled

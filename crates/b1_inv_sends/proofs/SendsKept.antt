@@ -12,10 +12,10 @@ use Rattle.b1_model.specs.MachineTook.{with_facts}
 use Rattle.b1_model.specs.MachineEvents.{happens}
 use Rattle.b1_model.specs.MachineStep.{Step, opening_state}
 use Rattle.b1_step.specs.Rights.{Has}
-use Rattle.b1_shape.specs.Words.{IsPeer, IsDriver, IsMade, phase_of}
-use Rattle.b1_shape.specs.Sends.{SendShape, SendsRight}
-use Rattle.b1_shape.specs.References.{ReferencesRight}
-use Rattle.b1_shape.specs.Sound.{IsSound}
+use Rattle.b1_inv.specs.Words.{IsPeer, IsDriver, IsMade, phase_of}
+use Rattle.b1_inv.specs.Sends.{SendShape, SendsRight}
+use Rattle.b1_inv.specs.References.{ReferencesRight}
+use Rattle.b1_inv.specs.Sound.{IsSound}
 use Rattle.b1_inv_tools.proofs.Leaves.{Did, step_did, driver_cases, new_peer, turned_open}
 use Rattle.b1_inv_sends.proofs.Events.{next_of, next_owed}
 use Rattle.b1_inv_tools.proofs.Grows.{made_stays}

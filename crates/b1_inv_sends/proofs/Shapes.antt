@@ -30,8 +30,8 @@ use Rattle.b1_model.specs.MachineDestroy.{doom_answer}
 use Rattle.b1_model.specs.MachineDriver.{node_of_place, send_of, accepted_from, is_place, all_refused, attaching, all_staged, staging, unstaging, with_slot, syncing, visiting, syncing_notices, committing_notices, is_flushing, destroying, started, place_done, phase_action, first_action, peer_of, Turn, Goes, Ends, turn}
 use Rattle.b1_model.specs.MachineEvents.{happens, begin_by, stage_by, destroy_by, begin_refusal, begin_serials, collected_of, number_of}
 use Rattle.b1_step.specs.Rights.{Has}
-use Rattle.b1_shape.specs.Words.{IsPeer, IsMade}
-use Rattle.b1_shape.specs.Sends.{IsBegun, IsSending, IsAttached, SendShape}
+use Rattle.b1_inv.specs.Words.{IsPeer, IsMade}
+use Rattle.b1_inv.specs.Sends.{IsBegun, IsSending, IsAttached, SendShape}
 use Rattle.b1_inv_sends.proofs.Places.{next_before, next_accepted_place, next_or_end}
 use Rattle.b1_inv_sends.proofs.Begins.{accepted, begun_right}
 use Rattle.b1_inv_sends.proofs.Sendings.{all_staged_right, attaching_right, filled_right, fills}

@@ -25,11 +25,11 @@ use Rattle.b1_model.specs.MachineEvents.{begun_of, slots_at}
 use Rattle.b1_model.specs.MachineStep.{Step, opening_state}
 use Rattle.b1_step.specs.Rights.{Has}
 use Rattle.b1_step.proofs.Orders.{find_has}
-use Rattle.b1_shape.specs.Words.{IsPeer, IsDriver, IsMade, is_accepted_place, waits_at}
-use Rattle.b1_shape.specs.Sends.{IsFilled, SendShape}
-use Rattle.b1_shape.specs.Stages.{IsMessageOf}
-use Rattle.b1_shape.specs.References.{AreFilled, SlotsRight}
-use Rattle.b1_shape.specs.Sound.{IsSound}
+use Rattle.b1_inv.specs.Words.{IsPeer, IsDriver, IsMade, is_accepted_place, waits_at}
+use Rattle.b1_inv.specs.Sends.{IsFilled, SendShape}
+use Rattle.b1_inv.specs.Stages.{IsMessageOf}
+use Rattle.b1_inv.specs.References.{AreFilled, SlotsRight}
+use Rattle.b1_inv.specs.Sound.{IsSound}
 use Rattle.b1_inv_tools.proofs.Leaves.{peer_cases}
 use Rattle.b1_inv_tools.proofs.Grows.{made_stays}
 use Rattle.b1_inv_tools.proofs.Comes.{Comes, queue_comes}

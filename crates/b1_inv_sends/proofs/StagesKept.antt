@@ -24,9 +24,9 @@ use Rattle.b1_model.specs.MachineStep.{Step, wire_made, opening_state}
 use Rattle.b1_model.specs.Names.{is_own}
 use Rattle.b1_model.specs.MachineTables.{is_stage, with_made}
 use Rattle.b1_step.specs.Rights.{Has}
-use Rattle.b1_shape.specs.Words.{IsPeer, IsDriver, waits_at, stamp_of_phase}
-use Rattle.b1_shape.specs.Stages.{IsMessageOf, HasSender, OnceEach, StagesRight}
-use Rattle.b1_shape.specs.Sound.{IsSound}
+use Rattle.b1_inv.specs.Words.{IsPeer, IsDriver, waits_at, stamp_of_phase}
+use Rattle.b1_inv.specs.Stages.{IsMessageOf, HasSender, OnceEach, StagesRight}
+use Rattle.b1_inv.specs.Sound.{IsSound}
 use Rattle.b1_inv_sends.proofs.Places.{accepted_past}
 use Rattle.b1_inv_tools.proofs.Leaves.{Did, step_did, peer_cases, new_driver, same_driver}
 use Rattle.b1_inv_sends.proofs.Events.{next_of, next_owed, Answers, was_or_comes}

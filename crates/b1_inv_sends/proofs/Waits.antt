@@ -26,7 +26,7 @@ use Rattle.b1_model.specs.MachineTables.{is_stage}
 use Rattle.b1_model.specs.MachineDriver.{node_of_place, send_of, accepted_from, is_place, all_refused, attaching, all_staged, staging, unstaging, with_slot, syncing, place_done, phase_action, first_action, peer_of, Turn, Goes, Ends, turn}
 use Rattle.b1_model.specs.MachineTook.{is_done, turned}
 use Rattle.b1_model.specs.MachineEvents.{happens, stage_by, begun_of}
-use Rattle.b1_shape.specs.Words.{is_accepted_place, waits_at}
+use Rattle.b1_inv.specs.Words.{is_accepted_place, waits_at}
 use Rattle.b1_inv_sends.proofs.Places.{accepted_within, accepted_new, accepted_old, next_before, none_left}
 use Rattle.b1_inv_tools.proofs.Comes.{leaves}
 use Rattle.b1_inv_tools.proofs.Leaves.{turned_goes}

@@ -5,10 +5,10 @@ ghost use Rattle.b1_model.specs.declared.commands.Command.{Command};
 ghost use Rattle.b1_model.specs.Opening.{IsOpening};
 ghost use Rattle.b1_model.specs.MachineParts.{State};
 ghost use Rattle.b1_model.specs.MachineStep.{Step, opening_state};
-ghost use Rattle.b1_shape.specs.Sends.{SendsRight};
-ghost use Rattle.b1_shape.specs.Stages.{StagesRight};
-ghost use Rattle.b1_shape.specs.References.{SlotsRight};
-ghost use Rattle.b1_shape.specs.Sound.{IsSound};
+ghost use Rattle.b1_inv.specs.Sends.{SendsRight};
+ghost use Rattle.b1_inv.specs.Stages.{StagesRight};
+ghost use Rattle.b1_inv.specs.References.{SlotsRight};
+ghost use Rattle.b1_inv.specs.Sound.{IsSound};
 
 /// A step keeps open SENDs in the shape of their phase, and every bus begins so.
 pub fn sends_stay_right()

@@ -25,7 +25,7 @@ use Rattle.b1_model.specs.MachineDriver.{send_of}
 use Rattle.b1_model.specs.MachineEvents.{happens, begin_by, destroy_by, begin_refusal, begin_serials, collected_of, doomed_of}
 use Rattle.b1_model.specs.MachineStep.{Step}
 use Rattle.b1_step.proofs.Changed.{changes}
-use Rattle.b1_shape.specs.Words.{IsPeer, IsMade}
+use Rattle.b1_inv.specs.Words.{IsPeer, IsMade}
 use Rattle.b1_inv_tools.proofs.Received.{recv_rests}
 use Rattle.b1_inv_tools.proofs.Leaves.{step_did, new_peer, same_peer}
 

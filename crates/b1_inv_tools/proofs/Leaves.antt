@@ -22,7 +22,7 @@ use Rattle.b1_model.specs.MachineStep.{LocalStep, Step, begun_by, begun, aimed, 
 use Rattle.b1_step.specs.Fixed.{IsNumbered}
 use Rattle.b1_step.proofs.Lists.{read_same, read_other, set_cases}
 use Rattle.b1_step.proofs.Locality.{own_driver, other_driver, at_peer, other_peer}
-use Rattle.b1_shape.specs.Words.{IsPeer, IsDriver, IsMade}
+use Rattle.b1_inv.specs.Words.{IsPeer, IsDriver, IsMade}
 
 some_same : {A : Type 0} (x y : A) → Some x ≡ Some y → x ≡ y
 some_same x y same = cc same

@@ -9,7 +9,7 @@ use Rattle.b1_model.specs.MachineParts.{PeerPart, DriverPart, State}
 use Rattle.b1_model.specs.MachineTables.{node_named}
 use Rattle.b1_model.specs.MachineStep.{no_peer, with_part, wire_made, wire_counted, wire_held, wired, peer_before, peers_before, idle_driver, idle_drivers, opening_state}
 use Rattle.b1_step.proofs.InOrder.{each_with_part}
-use Rattle.b1_shape.specs.Words.{IsPeer, IsDriver}
+use Rattle.b1_inv.specs.Words.{IsPeer, IsDriver}
 
 abbrev Each : (PeerPart → Type 0) → List PeerPart → Type 0
 Each P xs = (q : ℕ) (x : PeerPart) → slice_get xs q ≡ Some x → P x

@@ -14,7 +14,7 @@ use Rattle.b1_model.specs.Names.{Node, calls_of}
 use Rattle.b1_model.specs.Ledger.{Message, message, to_at, Destruction, destructions_of, node_at, doomed_at, is_below, stamp_of, order}
 use Rattle.b1_model.specs.Legal.{last_key, is_above, is_message_in, is_message, is_notice_of, is_notice, is_candidate, IsLeast, IsNextReceipt, KeepsPrefix, HasNoNext}
 use Rattle.b1_ledger.proofs.Sequences.{and_true, and_of, or_true, or_left, or_right, bool_cases}
-use Rattle.b1_facts.specs.Facts.{Gathered, Place, nodes_in, doomed}
+use Rattle.b1_judge_facts.specs.Facts.{Gathered, Place, nodes_in, doomed}
 use Rattle.b1_judge.specs.Candidates.{key_at, is_under, is_passed, is_beyond, HasCandidate, HasCandidateOf, HasMessageOf, HasNoticeOf, IsAlong}
 use Rattle.b1_judge.proofs.OrderLemmas.{in_bus_order}
 

@@ -14,7 +14,7 @@ use Rattle.b1_model.specs.declared.records.Call.{Call}
 use Rattle.b1_model.specs.Names.{Node, calls_of, made}
 use Rattle.b1_model.specs.Ledger.{Message, message, to_at, table, is_late}
 use Rattle.b1_model.specs.Legal.{own_number_of, arrived, IsWhatWasSent, KeepsContents}
-use Rattle.b1_facts.specs.Facts.{Gathered, Place}
+use Rattle.b1_judge_facts.specs.Facts.{Gathered, Place}
 use Rattle.b1_judge.specs.Candidates.{IsAlong}
 use Rattle.b1_judge.specs.Contents.{HasSent}
 use Rattle.b1_judge.proofs.CandidateLemmas.{same_message, asked_of}

@@ -5,7 +5,7 @@ use Rattle.b1_model.specs.declared.records.Call.{Call}
 use Rattle.b1_model.specs.declared.records.Record.{Record}
 use Rattle.b1_model.specs.Names.{calls_of}
 use Rattle.b1_model.specs.Legal.{KeepsPrefix, KeepsContents, HasNoNext}
-use Rattle.b1_facts.specs.Facts.{Gathered, Place}
+use Rattle.b1_judge_facts.specs.Facts.{Gathered, Place}
 use Rattle.b1_judge.specs.Candidates.{HasCandidate}
 use Rattle.b1_judge.specs.Frame.{IsCall, IsEnd, IsFirst}
 use Rattle.b1_judge.proofs.CandidateLemmas.{no_next_by, next_by}

@@ -4,7 +4,7 @@ use Rattle.b1_model.specs.declared.naming.Key.{Key}
 use Rattle.b1_model.specs.declared.records.Stamp.{Stamp}
 use Rattle.b1_model.specs.Ledger.{is_before, is_below}
 use Rattle.b1_model.specs.Legal.{is_message, is_notice, is_candidate}
-use Rattle.b1_facts.specs.Facts.{Gathered, Place}
+use Rattle.b1_judge_facts.specs.Facts.{Gathered, Place}
 
 -- the key of a place of a stamped call
 abbrev pub key_at : Stamp → ℕ → Key

@@ -3,10 +3,10 @@
 ghost use Rattle.std.specs.Prelude.{◌≡◌, ◌<◌, ◌&&◌, ◌↔◌, not, Some, IsTrue, length, slice_get};
 ghost use Rattle.b1_model.specs.Ledger.{message as message_with, is_before, is_accepted};
 ghost use Rattle.b1_model.specs.Legal.{is_above, is_message, is_message_in, is_notice, is_notice_of};
-ghost use Rattle.b1_facts.specs.Facts.{doomed};
+ghost use Rattle.b1_judge_facts.specs.Facts.{doomed};
 ghost use Rattle.b1_judge.specs.Candidates.{key_at, is_under, is_passed, is_beyond, HasCandidate, HasCandidateOf, HasMessageOf, HasNoticeOf, IsAlong};
 
-use b1_facts::{Facts, Message, NodeId, Walk};
+use b1_judge_facts::{Facts, Message, NodeId, Walk};
 use b1_ledger::entries_come_from_calls;
 use b1_model::{Key, Reason, Stamp};
 

@@ -5,14 +5,14 @@ ghost use Rattle.b1_model.specs.declared.answers.Answer.TheVariants.{Got};
 ghost use Rattle.b1_model.specs.Names.{calls_of};
 ghost use Rattle.b1_model.specs.Ledger.{to_at};
 ghost use Rattle.b1_model.specs.Legal.{KeepsContents, IsWhatWasSent};
-ghost use Rattle.b1_facts.specs.Facts.{CarriesNone};
+ghost use Rattle.b1_judge_facts.specs.Facts.{CarriesNone};
 ghost use Rattle.b1_judge.specs.Candidates.{IsAlong};
 ghost use Rattle.b1_judge.specs.Contents.{HasSent};
 ghost use Rattle.b1_judge.specs.Frame.{IsCall};
 
 use crate::frame::Part;
 use crate::reading::peer_calls;
-use b1_facts::{Facts, Message, NodeId, Walk};
+use b1_judge_facts::{Facts, Message, NodeId, Walk};
 use b1_model::{Answer, Call, Key, Receipt};
 use std::alloc::{AllocError, Global};
 

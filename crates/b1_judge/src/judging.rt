@@ -12,7 +12,7 @@ use crate::prefix::Prefix;
 use crate::script_part::Commands;
 use crate::verdict::{Clause, Verdict};
 use crate::whole::Whole;
-use b1_facts::Facts;
+use b1_judge_facts::Facts;
 use b1_model::Record;
 use b1_script::Script;
 use std::alloc::{AllocError, Global};

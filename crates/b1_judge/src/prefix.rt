@@ -10,7 +10,7 @@ ghost use Rattle.b1_judge.specs.Frame.{IsCall};
 use crate::candidates::has_candidate;
 use crate::frame::Part;
 use crate::reading::peer_calls;
-use b1_facts::{Facts, Walk};
+use b1_judge_facts::{Facts, Walk};
 use b1_model::{Answer, Call, Key, Receipt};
 use std::alloc::{AllocError, Global};
 

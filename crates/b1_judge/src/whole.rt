@@ -8,7 +8,7 @@ ghost use Rattle.b1_judge.specs.Frame.{IsEnd};
 use crate::candidates::has_candidate;
 use crate::frame::Part;
 use crate::reading::peer_calls;
-use b1_facts::{Facts, Walk};
+use b1_judge_facts::{Facts, Walk};
 use std::alloc::{AllocError, Global};
 
 /// Nothing is left to receive behind a peer's calls.

@@ -9,7 +9,7 @@ use Rattle.b1_step.specs.Ordered.{Rising, HandlesRise}
 use Rattle.b1_step.proofs.Numbers.{opening_numbered, step_numbered}
 use Rattle.b1_step.proofs.InOrder.{reached_rise}
 use Rattle.b1_step.proofs.Locality.{step_rises}
-use Rattle.b1_shape.specs.Sound.{IsSound}
+use Rattle.b1_inv.specs.Sound.{IsSound}
 use Rattle.b1_inv_tools.proofs.Leaves.{peer_cases}
 use Rattle.b1_inv_sends.proofs.SendsKept.{opening_sends, sends_kept}
 use Rattle.b1_inv_sends.proofs.StagesKept.{opening_stages, stages_kept}

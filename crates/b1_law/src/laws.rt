@@ -5,7 +5,7 @@ ghost use Rattle.b1_model.specs.declared.commands.Command.{Command};
 ghost use Rattle.b1_model.specs.Opening.{IsOpening};
 ghost use Rattle.b1_model.specs.MachineParts.{State};
 ghost use Rattle.b1_model.specs.MachineStep.{Step, Reached, opening_state};
-ghost use Rattle.b1_shape.specs.Sound.{IsSound};
+ghost use Rattle.b1_inv.specs.Sound.{IsSound};
 
 /// Whatever list of steps led to a state from a valid opening, in whatever order: open commands have the shape of their
 /// phase, what is staged has its open command, stamps and keys are new where they are given, notices are queued as their

@@ -22,9 +22,9 @@ use Rattle.b1_model.specs.MachineTables.{is_staged_notice}
 use Rattle.b1_model.specs.MachineDriver.{phase_action, peer_of, first_action}
 use Rattle.b1_model.specs.MachineStep.{Step, Label, Leads, Reached, opening_state}
 use Rattle.b1_step.specs.Rights.{Has}
-use Rattle.b1_shape.specs.Words.{IsPeer, stamp_of_phase, is_uncommitted, phase_uncommitted}
-use Rattle.b1_shape.specs.Sends.{SendShape}
-use Rattle.b1_shape.specs.Sound.{IsSound}
+use Rattle.b1_inv.specs.Words.{IsPeer, stamp_of_phase, is_uncommitted, phase_uncommitted}
+use Rattle.b1_inv.specs.Sends.{SendShape}
+use Rattle.b1_inv.specs.Sound.{IsSound}
 use Rattle.b1_inv_tools.proofs.Leaves.{Did, step_did, peer_cases}
 use Rattle.b1_inv_sends.proofs.StagesKept.{opening_queue}
 use Rattle.b1_inv_sends.proofs.Events.{next_of, next_owed}

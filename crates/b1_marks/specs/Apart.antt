@@ -5,7 +5,7 @@ use Rattle.b1_model.specs.declared.entries.Entry.{Entry}
 use Rattle.b1_model.specs.declared.entries.Entry.TheVariants.{Message, OwnNotice, ForeignNotice, ReleaseNotice}
 use Rattle.b1_model.specs.MachineParts.{PeerPart, State, is_staged}
 use Rattle.b1_step.specs.Rights.{Has}
-use Rattle.b1_shape.specs.Words.{IsPeer}
+use Rattle.b1_inv.specs.Words.{IsPeer}
 
 -- the destroy notice of an own node
 abbrev pub is_own_notice : Entry → Bool

@@ -4,7 +4,7 @@ ghost use Rattle.b1_model.specs.Opening.{IsOpening};
 ghost use Rattle.b1_model.specs.MachineParts.{PeerPart, State};
 ghost use Rattle.b1_model.specs.MachineTables.{is_staged_notice};
 ghost use Rattle.b1_model.specs.MachineStep.{Reached};
-ghost use Rattle.b1_shape.specs.Words.{IsPeer};
+ghost use Rattle.b1_inv.specs.Words.{IsPeer};
 
 /// In every reached state the notices of a peer's own nodes that are staged in its queue have places of their own.
 pub fn own_notices_stand_apart()

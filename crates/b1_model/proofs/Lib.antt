@@ -2,3 +2,4 @@ mod Rows
 pub mod PeerLemmas
 mod StableSort
 mod BusOrder
+pub mod Pools

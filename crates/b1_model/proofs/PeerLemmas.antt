@@ -6,6 +6,7 @@ use Rattle.std.proofs.lemmas.Grind.{common_steps}
 use Rattle.std.proofs.lemmas.List.{length-append, length-drop, length-take, take_all, drop_all}
 use Rattle.std.proofs.lemmas.List.Sums.{prefix_len-le-length}
 use Rattle.std.proofs.lemmas.Bool.{cases_lt, cases_eq, le-ltb, lt-ltb, le-leb, lt-leb, eq-eqb, ne_eqb}
+use Rattle.b1_model.specs.declared.limits.TheConstants.{MOST_PEERS}
 use Rattle.b1_model.specs.MachineTables.{with_peer}
 use Rattle.b1_model.specs.Peers.{RisesFrom, IsPeerSet}
 
@@ -54,12 +55,12 @@ comes p (x ∷ xs) other =
           rw (lt-ltb p x (omega (arith, apart)), le-leb p x above) refl
     ]
 
--- a set has at most 64 peers
-pub few : (least : ℕ) (xs : List ℕ) → least ≤ 64 → RisesFrom least xs → length xs + least ≤ 64
+-- a set has at most as many peers as a bus
+pub few : (least : ℕ) (xs : List ℕ) → least ≤ MOST_PEERS → RisesFrom least xs → length xs + least ≤ MOST_PEERS
 few least [] small rises = omega arith
 few least (x ∷ xs) small rises = let ih = few (x + 1) xs (omega (arith, rises.1)) rises.2 in omega (arith, rises.0)
 
-pub rises_with : (least p : ℕ) (xs : List ℕ) → least ≤ p → p < 64 → RisesFrom least xs → RisesFrom least (with_peer p xs)
+pub rises_with : (least p : ℕ) (xs : List ℕ) → least ≤ p → p < MOST_PEERS → RisesFrom least xs → RisesFrom least (with_peer p xs)
 rises_with least p [] above small rises = (above, small, tt)
 rises_with least p (x ∷ xs) above small rises =
     elim (cases_lt p x) [
@@ -102,15 +103,15 @@ module _ (p : ℕ) (ys xs : List ℕ) (same : ys ≡ xs) where
   within_at i is = let f = found i is in omega arith
 
 -- a peer that comes in finds room
-pub room : (p i : ℕ) (xs : List ℕ) → IsPeerSet xs → p < 64 → i ≤ length xs → with_peer p xs ≡ insert xs i p → length xs < 64
+pub room : (p i : ℕ) (xs : List ℕ) → IsPeerSet xs → p < MOST_PEERS → i ≤ length xs → with_peer p xs ≡ insert xs i p → length xs < MOST_PEERS
 room p i xs rises small within is =
-    let all : length (with_peer p xs) + 0 ≤ 64 = few 0 (with_peer p xs) (omega arith) (rises_with 0 p xs (omega arith) small rises) in
+    let all : length (with_peer p xs) + 0 ≤ MOST_PEERS = few 0 (with_peer p xs) (omega arith) (rises_with 0 p xs (omega arith) small rises) in
     let more : length (insert xs i p) ≡ length xs + 1 = simp (length-append, length-take, length-drop) (omega arith) in
     omega (arith, ap length is)
 
-pub room_last : (p : ℕ) (xs : List ℕ) → IsPeerSet xs → p < 64 → with_peer p xs ≡ xs ++ p ∷ [] → length xs < 64
+pub room_last : (p : ℕ) (xs : List ℕ) → IsPeerSet xs → p < MOST_PEERS → with_peer p xs ≡ xs ++ p ∷ [] → length xs < MOST_PEERS
 room_last p xs rises small is =
-    let all : length (with_peer p xs) + 0 ≤ 64 = few 0 (with_peer p xs) (omega arith) (rises_with 0 p xs (omega arith) small rises) in
+    let all : length (with_peer p xs) + 0 ≤ MOST_PEERS = few 0 (with_peer p xs) (omega arith) (rises_with 0 p xs (omega arith) small rises) in
     omega (arith, ap length is, length-append xs (p ∷ []))
 
 or_swap : (a b c : Bool) → (a || (b || c)) ≡ (b || (a || c))

@@ -116,11 +116,15 @@ abbrev pub is_notice_with : ℕ → ℕ → Key × Entry → Bool
 is_notice_with serial stamp f = is_release_notice serial f && (f.0.stamp == stamp)
 
 -- one step and a node that is live before it: when its release notice comes, with which stamp, when it goes, and that it is taken only where nobody has a reference
-pub record ReleaseDue {o : Opening} {s : State} {p : ℕ} {command : Option Command} {t : State} (step : Step o s p command t) (node : NodeRef) : Type 0 where
+pub record ReleaseDue {o : Opening} {s : State} {p : ℕ} {command : Option Command} {t : State} (step : Step o s p command t) (node : NodeRef) (live : is_live_in s node ≡ true) : Type 0 where
   pub comes : (is_notified s node ≡ false) × (is_notified t node ≡ true) ↔ (is_drop_of node step.action ≡ true) × (0 < total s node) × (total t node ≡ 0)
   pub stamp : is_notified s node ≡ false → is_notified t node ≡ true → list_any (is_notice_with node.serial step.new_peer.clock) step.new_peer.queue ≡ true
   pub goes : is_notified s node ≡ true → (is_notified t node ≡ false) ↔ (takes_notice node step.at step.peer t step.action ≡ true)
   pub taken : is_receipt_of node step.at step.peer step.action ≡ true → total s node ≡ 0
+
+-- no node has a release notice queued, as in an opening
+abbrev pub NoneNotified : State → Type 0
+NoneNotified s = (node : NodeRef) → is_notified s node ≡ false
 
 -- no dying or destroyed node has a release notice queued
 abbrev pub OnlyLiveNotified : State → Type 0

@@ -2,6 +2,7 @@
 use Rattle.std.specs.Prelude.{ℕ, ◌+◌, ◌==◌, Bool, true, false, ◌||◌, not, nat_lt, nat_le, if◌then◌else◌, List, [], ◌∷◌, ◌++◌, Option, Some, None, Ok, Err, Result, fold, filter, filter_map, find, length, option_map}
 use Rattle.std.specs.List.{list_any, range_with_len}
 use Rattle.std.specs.Bool.{then_some}
+use Rattle.b1_model.specs.declared.limits.TheConstants.{MOST_DESTINATIONS}
 use Rattle.b1_model.specs.declared.naming.Key.{Key}
 use Rattle.b1_model.specs.declared.naming.NodeRef.{NodeRef}
 use Rattle.b1_model.specs.declared.naming.Limits.{Limits}
@@ -25,9 +26,9 @@ abbrev pub has_repeat : List ℕ → Bool
 has_repeat [] = false
 has_repeat (n ∷ rest) = list_any (λ m. m == n) rest || has_repeat rest
 
--- 0 or more than 64 numbers, a number that isn't a multiple of 4, or a repeat
+-- no number or too many, a number that isn't a multiple of 4, or a repeat
 abbrev pub is_bad_destroy : List ℕ → Bool
-is_bad_destroy numbers = (length numbers == 0) || nat_lt 64 (length numbers) || list_any (λ n. not (is_own n)) numbers || has_repeat numbers
+is_bad_destroy numbers = (length numbers == 0) || nat_lt MOST_DESTINATIONS (length numbers) || list_any (λ n. not (is_own n)) numbers || has_repeat numbers
 
 -- the serial of a live own node, by its number
 abbrev pub live_serial : PeerPart → ℕ → Option ℕ

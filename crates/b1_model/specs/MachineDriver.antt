@@ -66,6 +66,7 @@ abbrev pub first_action : Command → Action
 first_action cmd.Disconnect = act.BeginDestroy
 first_action cmd.Query = act.Local
 first_action (cmd.Reset limits) = act.BeginDestroy
+first_action (cmd.Limit limits) = act.Local
 first_action (cmd.Release number) = act.Release
 first_action (cmd.Destroy numbers) = act.BeginDestroy
 first_action (cmd.SliceRelease offset) = act.Local
@@ -196,7 +197,7 @@ with_visit destruction peer got = record destruction { collected = max destructi
 abbrev pub syncing_notices : Destruction → ℕ → ℕ → Phase
 syncing_notices destruction stamp at = if nat_lt at (length destruction.staged) then SyncingNotices destruction stamp at else CommittingOwn destruction stamp
 
--- a PEER_RESET or a PEER_DISCONNECT goes on with its flush
+-- a PEER_RESET with flush or a PEER_DISCONNECT goes on with its flush
 abbrev pub is_flushing : Command → Bool
 is_flushing command = elim command [ cmd.Reset limits ↦ true | cmd.Disconnect ↦ true | other ↦ false ]
 

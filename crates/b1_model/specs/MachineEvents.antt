@@ -22,7 +22,7 @@ use Rattle.b1_model.specs.declared.events.Phase.TheVariants.{Staging, Unstaging,
 use Rattle.b1_model.specs.MachineParts.{PeerPart, DriverPart}
 use Rattle.b1_model.specs.MachinePool.{is_received}
 use Rattle.b1_model.specs.MachineSend.{send_refusal, begun_nodes, begun_part, stage_refusal, staged, unstaged, attach_answer, attached, final_stamp, stamped, synced, is_committed, committed, notices_committed}
-use Rattle.b1_model.specs.MachineReceive.{received, received_part, has_dead, reaped, reaped_part, released, released_part, dropped, slice_released}
+use Rattle.b1_model.specs.MachineReceive.{received, received_part, has_dead, reaped, reaped_part, released, released_part, dropped, slice_released, limited}
 use Rattle.b1_model.specs.MachineDestroy.{destroy_refusal, overflow_reason, destroy_serials, reset_serials, visit_set, doomed_part, visit_answer, visited, doom_answer, doom_stamped, flushed}
 use Rattle.b1_model.specs.MachineDriver.{node_of_place, send_of, refused_at}
 
@@ -176,20 +176,22 @@ stamp_destroy_event collected doomed x = (out.StampDestroy (doom_answer x collec
 abbrev pub flush_event : Command → PeerPart → Outcome × PeerPart
 flush_event command x = (out.Flush (has_dead (flushed x (limits_after command x.limits))), flushed x (limits_after command x.limits))
 
--- the commands of one step: SLICE_RELEASE, PEER_QUERY, and every command of a shut driver
+-- the commands of one step: SLICE_RELEASE, PEER_QUERY, PEER_RESET without flush, and every command of a shut driver
 abbrev pub local_answer : Bool → Command → PeerPart → Answer
 local_answer true command x = refused_at reason.Shutdown None
 local_answer false command x =
     elim command [
       | cmd.SliceRelease offset ↦ if is_received offset x.slices then answer.Done else refused_at (reason.Unknown offset) None
       | cmd.Query ↦ answer.Info x.user x.pool x.limits
+      | cmd.Limit limits ↦ answer.Done
       | other ↦ refused_at reason.Invalid None
     ]
 
--- only SLICE_RELEASE of a driver that is not shut changes the part
+-- only SLICE_RELEASE and PEER_RESET without flush of a driver that is not shut change the part
 abbrev pub local_part : Bool → Command → PeerPart → PeerPart
 local_part true command x = x
 local_part false (cmd.SliceRelease offset) x = slice_released x offset
+local_part false (cmd.Limit limits) x = limited x limits
 local_part false command x = x
 
 -- a local command answers the call's answer

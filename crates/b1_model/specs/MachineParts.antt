@@ -1,7 +1,8 @@
 -- A peer's part and a driver's part of a state, and the small tests on what stands in them.
-use Rattle.std.specs.Prelude.{ℕ, ◌%◌, ◌==◌, ◌^◌, Bool, true, false, ◌&&◌, ◌||◌, nat_lt, List, [], Option, Some, None, get_or, find}
+use Rattle.std.specs.Prelude.{ℕ, ◌%◌, ◌==◌, Bool, true, false, ◌&&◌, ◌||◌, nat_lt, List, [], Option, Some, None, get_or, find}
 use Rattle.std.specs.Ordering.{is_lt}
 use Rattle.b1_model.specs.Keys.{compare_keys}
+use Rattle.b1_model.specs.declared.limits.TheConstants.{CLOCK_LIMIT, NO_ORIGIN}
 use Rattle.b1_model.specs.Names.{invalid}
 use Rattle.b1_model.specs.declared.naming.Key.{Key}
 use Rattle.b1_model.specs.declared.naming.NodeRef.{NodeRef}
@@ -74,11 +75,11 @@ pub record State : Type 0 where
 
 -- the origin of a release notice
 abbrev pub no_origin : ℕ
-no_origin = 4294967295
+no_origin = NO_ORIGIN
 
 -- no stamp is begun at a clock from this one on
 abbrev pub clock_limit : ℕ
-clock_limit = 2 ^ 62
+clock_limit = CLOCK_LIMIT
 
 -- a number with bit 0 set
 abbrev pub is_odd : ℕ → Bool

@@ -1,6 +1,7 @@
 -- What receiving, giving up and dropping do at one peer: recv, reap, release, drop, and the local commands.
 use Rattle.std.specs.Prelude.{ℕ, ◌+◌, ◌==◌, max, Bool, true, false, ◌&&◌, not, if◌then◌else◌, List, [], ◌∷◌, ◌++◌, drop, take_while, Option, Some, None, Ok, Err, Result, fold, filter_map, zip, length, unwrap_or}
 use Rattle.b1_model.specs.declared.naming.Key.{Key}
+use Rattle.b1_model.specs.declared.naming.Limits.{Limits}
 use Rattle.b1_model.specs.declared.naming.NodeRef.{NodeRef}
 use Rattle.b1_model.specs.declared.parts.Slot.{Slot}
 use Rattle.b1_model.specs.declared.parts.Slot.TheVariants as slot
@@ -187,3 +188,7 @@ slice_given_back true x offset = record x { slices = given_back offset x.slices 
 -- the same, where a received slice begins at the offset
 abbrev pub slice_released : PeerPart → ℕ → PeerPart
 slice_released x offset = slice_given_back (is_received offset x.slices) x offset
+
+-- new limits, and nothing else
+abbrev pub limited : PeerPart → Limits → PeerPart
+limited x limits = record x { limits = limits }

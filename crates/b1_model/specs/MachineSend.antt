@@ -18,6 +18,7 @@ use Rattle.b1_model.specs.declared.answers.Reason.{Reason}
 use Rattle.b1_model.specs.declared.answers.Reason.TheVariants as reason
 use Rattle.b1_model.specs.declared.answers.Quantity.TheVariants.{Entries, Bytes, Handles}
 use Rattle.b1_model.specs.Names.{is_own, is_given}
+use Rattle.b1_model.specs.declared.limits.TheConstants.{MOST_DESTINATIONS, MOST_HANDLES, MOST_PAYLOAD}
 use Rattle.b1_model.specs.MachineParts.{PeerPart, clock_limit, is_odd, is_live, is_dying, is_destroyed, is_release_notice, node_at, carried}
 use Rattle.b1_model.specs.MachinePool.{slice_len, largest_free, taken, taken_offset, given_back}
 use Rattle.b1_model.specs.MachineTables.{put, put_all, without, is_stage, is_staged_notice, over_quota, is_number, serial_of, node_named, with_made, with_node, counted, expected, unexpected, foreign, with_peer}
@@ -30,9 +31,9 @@ first_reason (Some r ∷ rest) = Some r
 
 -- ---- begin
 
--- 0 or more than 64 destinations, more than 64 handles, or a number with bit 0 set
+-- no destination or too many, too many handles, or a number with bit 0 set
 abbrev pub is_bad_send : SendCmd → Bool
-is_bad_send c = (length c.to == 0) || nat_lt 64 (length c.to) || nat_lt 64 (length c.with) || list_any is_odd c.to || list_any is_odd c.with
+is_bad_send c = (length c.to == 0) || nat_lt MOST_DESTINATIONS (length c.to) || nat_lt MOST_HANDLES (length c.with) || list_any is_odd c.to || list_any is_odd c.with
 
 -- a number that names nothing at a peer
 abbrev pub is_unknown : PeerPart → ℕ → Bool
@@ -52,7 +53,7 @@ dead_reason x number =
 abbrev pub send_reasons : PeerPart → SendCmd → List (Option Reason)
 send_reasons x c =
     then_some (is_bad_send c) reason.Invalid ∷
-    then_some (nat_lt 65536 (length c.payload)) (reason.Size (length c.payload)) ∷
+    then_some (nat_lt MOST_PAYLOAD (length c.payload)) (reason.Size (length c.payload)) ∷
     then_some (nat_le clock_limit x.clock) (reason.Overflow x.clock) ∷
     unknown_reason x c.to ∷
     unknown_reason x (filter is_given c.with) ∷

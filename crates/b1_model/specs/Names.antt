@@ -1,5 +1,6 @@
 -- The names that a peer gives: its own numbers, the nodes that they name, and the epochs in which these were made.
 use Rattle.std.specs.Prelude.{ℕ, suc, ◌%◌, Bool, true, false, not, ◌&&◌, if◌then◌else◌, ◌==◌, List, [], ◌∷◌, ◌++◌, map, filter, take, slice_get, Option, None, Some, is_some}
+use Rattle.b1_model.specs.declared.limits.TheConstants.{INVALID}
 use Rattle.b1_model.specs.declared.naming.Wire.{Wire}
 use Rattle.b1_model.specs.declared.commands.Command.{Command}
 use Rattle.b1_model.specs.declared.commands.Command.TheVariants as cmd
@@ -11,7 +12,7 @@ use Rattle.b1_model.specs.declared.records.Record.{Record}
 
 -- 2^64 - 1, which names nothing
 abbrev pub invalid : ℕ
-invalid = 18446744073709551615
+invalid = INVALID
 
 -- a number by which a peer names a node of its own
 abbrev pub is_own : ℕ → Bool

@@ -1,7 +1,8 @@
 -- An opening that a bus can begin with, and what its wires give.
-use Rattle.std.specs.Prelude.{◌≡◌, ◌≢◌, ℕ, ◌%◌, ◌/◌, ◌^◌, ◌<◌, ◌≤◌, Bool, ◌&&◌, ◌==◌, if◌then◌else◌, List, [], ◌∷◌, ◌++◌, length, filter, slice_get, Option, Some, None, unwrap_or, IsSomeAnd}
+use Rattle.std.specs.Prelude.{◌≡◌, ◌≢◌, ℕ, ◌%◌, ◌/◌, ◌<◌, ◌≤◌, Bool, ◌&&◌, ◌==◌, if◌then◌else◌, List, [], ◌∷◌, ◌++◌, length, filter, slice_get, sum_by, Option, Some, None, unwrap_or, IsSomeAnd}
 use Rattle.std.specs.Option.{option_map}
 use Rattle.std.specs.List.{list_any, AllByRecursion}
+use Rattle.b1_model.specs.declared.limits.TheConstants.{CLOCK_LIMIT, MOST_PEERS, MOST_POOL, MOST_POOLS, WIRE_LIMIT}
 use Rattle.b1_model.specs.declared.naming.Opening.{Opening}
 use Rattle.b1_model.specs.declared.naming.PeerSpec.{PeerSpec}
 use Rattle.b1_model.specs.declared.naming.Wire.{Wire}
@@ -48,17 +49,22 @@ AreWired n held (w ∷ ws) = CanWire n held w × AreWired n (after_wire held w) 
 pub record IsPool (size : ℕ) : Type 0 where
   pub eighths : size % 8 ≡ 0
   pub least : 8 ≤ size
-  pub most : size ≤ 4194304
+  pub most : size ≤ MOST_POOL
 
 abbrev pub HasPool : PeerSpec → Type 0
 HasPool spec = IsPool spec.pool
 
+-- the bytes of all pools
+abbrev pub pool_bytes : List PeerSpec → ℕ
+pool_bytes specs = sum_by (λ spec. spec.pool) specs
+
 -- an opening that a bus can begin with
 pub record IsOpening (o : Opening) : Type 0 where
   pub least : 1 ≤ length o.peers
-  pub most : length o.peers ≤ 64
+  pub most : length o.peers ≤ MOST_PEERS
   pub even : o.first_clock % 2 ≡ 0
-  pub clock : o.first_clock ≤ 2 ^ 62
+  pub clock : o.first_clock ≤ CLOCK_LIMIT
   pub pools : AllByRecursion HasPool o.peers
-  pub few : length o.wires < 2 ^ 20
+  pub together : pool_bytes o.peers ≤ MOST_POOLS
+  pub few : length o.wires < WIRE_LIMIT
   pub wires : AreWired (length o.peers) [] o.wires

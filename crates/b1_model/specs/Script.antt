@@ -75,6 +75,7 @@ fits cmd.Disconnect (ans.Reset stamp) = true
 fits cmd.Query (ans.Info user pool limits) = true
 fits (cmd.Release number) ans.Done = true
 fits (cmd.SliceRelease offset) ans.Done = true
+fits (cmd.Limit limits) ans.Done = true
 fits c a = false
 
 -- a place for each destination, one of them accepted, and with CONTINUE alone one refused

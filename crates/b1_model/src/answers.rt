@@ -119,13 +119,13 @@ pub enum Answer {
     Sent(Sent),
     /// Of a RECV.
     Got(Receipt),
-    /// Of a HANDLE_RELEASE or a SLICE_RELEASE.
+    /// Of a HANDLE_RELEASE, a SLICE_RELEASE, or a PEER_RESET without flush.
     Done,
     /// Of a NODES_DESTROY: the destruction's stamp, even.
     Destroyed {
         stamp: u64,
     },
-    /// Of a PEER_RESET or a PEER_DISCONNECT: the destruction's stamp, `None` where no node was live.
+    /// Of a PEER_RESET with flush or a PEER_DISCONNECT: the destruction's stamp, `None` where no node was live.
     Reset {
         stamp: Option<u64>,
     },
@@ -137,6 +137,22 @@ pub enum Answer {
     },
     /// Of any command.
     Refused(Refused),
+}
+
+/// What an attempt of an AWAIT came to.
+#[derive(Clone, Copy, Debug, PartialEq, Eq)]
+pub enum Tried {
+    /// It took a receipt, the last of the calls.
+    Got,
+    /// The peer has disconnected: the refusal is the last of the calls.
+    Shut,
+    /// It waits: no call was added.
+    Waiting {
+        /// What the queue's front was.
+        front: Front,
+        /// How many entries that were for nobody left the queue.
+        removed: u64,
+    },
 }
 
 /// The Linux error number of a reason.

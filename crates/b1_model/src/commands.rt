@@ -6,11 +6,11 @@ use crate::naming::Limits;
 pub struct SendCmd {
     /// CONTINUE: a refused destination is left out, in place of refusing the whole.
     pub go_on: bool,
-    /// The destinations, own or given numbers: 1 to 64, else the bus refuses.
+    /// The destinations, own or given numbers: 1 to `MOST_DESTINATIONS`, else the bus refuses.
     pub to: Nums,
-    /// The carried handles, own or given numbers: at most 64, else the bus refuses.
+    /// The carried handles, own or given numbers: at most `MOST_HANDLES`, else the bus refuses.
     pub with: Nums,
-    /// The bytes: at most 65,536, else the bus refuses.
+    /// The bytes: at most `MOST_PAYLOAD`, else the bus refuses.
     pub payload: Bytes,
 }
 
@@ -21,8 +21,10 @@ pub enum Command {
     Disconnect,
     /// Asks for the peer's user, pool and limits.
     Query,
-    /// Destroys all own live nodes, empties the queue and sets new limits.
+    /// PEER_RESET with flush: destroys all own live nodes, empties the queue and sets new limits.
     Reset { limits: Limits },
+    /// PEER_RESET without flush: sets new limits; the queue, the nodes, the handles, the charges and the epoch stay.
+    Limit { limits: Limits },
     /// Gives up a held handle once.
     Release { number: u64 },
     /// Destroys own nodes.
@@ -42,3 +44,6 @@ pub type Commands = Items<Command>;
 
 /// The commands of each peer.
 pub type CommandLists = Items<Commands>;
+
+/// The cookies of each peer's commands, a number of the caller's own for each command: no bus sees them.
+pub type CookieLists = Items<Nums>;

@@ -1,24 +1,19 @@
 //! The test of an opening.
 
-ghost use Rattle.std.specs.Prelude.{◌≡◌, ◌↔◌, [], length, IsTrue, IfOk};
+ghost use Rattle.std.specs.Prelude.{◌≡◌, ◌↔◌, ◌≤◌, [], length, IsTrue, IfOk};
 ghost use Rattle.std.specs.List.{AllByRecursion};
-ghost use Rattle.b1_model.specs.Opening.{CanWire, AreWired, HasPool, IsPool, IsOpening};
+ghost use Rattle.b1_model.specs.Opening.{CanWire, AreWired, HasPool, IsPool, IsOpening, pool_bytes};
 
 use crate::held::Held;
+use crate::limits::{CLOCK_LIMIT, MOST_PEERS, MOST_POOL, MOST_POOLS, WIRE_LIMIT};
 use crate::naming::{Opening, PeerSpec, Wire};
 use std::alloc::{AllocError, Global};
-
-/// The greatest first clock.
-const GREATEST_CLOCK: u64 = 1 << 62;
-
-/// The number of wires that an opening has fewer than.
-const WIRES: usize = 1 << 20;
 
 /// A size that a pool can have.
 fn is_pool(size: u32) -> bool
     ensures { IsTrue result ↔ IsPool size }
 {
-    size % 8 == 0 && 8 <= size && size <= 4_194_304
+    size % 8 == 0 && 8 <= size && size <= MOST_POOL
 }
 
 /// Whether each peer's pool has a size that it can have.
@@ -31,6 +26,14 @@ fn have_pools(peers: &[PeerSpec]) -> bool
         }
     }
     true
+}
+
+/// The bytes of all pools.
+fn pool_sum(peers: &[PeerSpec]) -> u64
+    requires few { length peers.now ≤ MOST_PEERS }
+    ensures { result ≡ pool_bytes peers.now }
+{
+    peers.iter().map(|peer| u64::from(peer.pool)).sum()
 }
 
 /// Whether a wire can be made where so much is held.
@@ -59,16 +62,20 @@ fn are_wired(alloc: Global, peers: usize, wires: &[Wire]) -> Result<bool, AllocE
     Ok(true)
 }
 
-/// Whether a bus can begin so: 1 to 64 peers, an even first clock of at most 2^62, pools of a multiple of 8 from 8 to
-/// 4,194,304 bytes, and fewer than 2^20 wires, each of which leads to another peer and gives it a node that it doesn't
-/// own. An error is want of memory. `docs/FORMATS.md` tells the rule of the wiring.
+/// Whether a bus can begin so: 1 to `MOST_PEERS` peers, an even first clock of at most `CLOCK_LIMIT`, pools of a multiple
+/// of 8 from 8 to `MOST_POOL` bytes, at most `MOST_POOLS` together, and fewer than `WIRE_LIMIT` wires, each of which leads
+/// to another peer and gives it a node that it doesn't own. An error is want of memory. `docs/FORMATS.md` tells the rule
+/// of the wiring.
 pub fn valid_opening(alloc: Global, opening: &Opening) -> Result<bool, AllocError>
     ensures { IfOk result (λ valid. IsTrue valid ↔ IsOpening opening.now) }
 {
     let count = opening.peers.len();
-    let counted = 1 <= count && count <= 64 && opening.wires.len() < WIRES;
-    let clock = opening.first_clock % 2 == 0 && opening.first_clock <= GREATEST_CLOCK;
+    let counted = 1 <= count && count <= MOST_PEERS && opening.wires.len() < WIRE_LIMIT;
+    let clock = opening.first_clock % 2 == 0 && opening.first_clock <= CLOCK_LIMIT;
     if !counted || !clock || !have_pools(opening.peers.as_slice()) {
+        return Ok(false);
+    }
+    if pool_sum(opening.peers.as_slice()) > MOST_POOLS {
         return Ok(false);
     }
     are_wired(alloc, count, opening.wires.as_slice())

@@ -3,13 +3,14 @@ ghost use Rattle.std.specs.List.{list_any};
 ghost use Rattle.b1_model.specs.MachineTables.{with_peer};
 ghost use Rattle.b1_model.specs.Peers.{IsPeerSet};
 
+use crate::limits::MOST_PEERS;
 use arrayvec::ArrayVec;
 use std::marker::Model;
 
-/// A set of peers, each below 64. Contracts see it as a list in rising order. It takes no memory.
+/// A set of peers that a bus can have, each below `MOST_PEERS`. Contracts see it as a list in rising order. It takes no memory.
 #[derive(Debug, Drop)]
 pub struct PeerSet {
-    peers: ArrayVec<u32, 64>,
+    peers: ArrayVec<u32, MOST_PEERS>,
 }
 
 impl Model for PeerSet {
@@ -35,7 +36,7 @@ impl PeerSet {
 
     /// Adds a peer; one that is there stays.
     pub fn insert(&mut self, peer: u32)
-        requires { peer < 64 }
+        requires { peer < MOST_PEERS }
         ensures peers { self.new ≡ with_peer peer self.old }
         ensures members { (q : ℕ) → list_any (λ p. p == q) self.new ≡ ((peer == q) || list_any (λ p. p == q) self.old) }
     {
@@ -45,14 +46,6 @@ impl PeerSet {
             Some(at) => self.peers.insert(at, peer),
             None => self.peers.push(peer),
         }
-    }
-
-    /// The peers, rising.
-    pub fn as_slice(&self) -> &[u32]
-        ensures peers { result.now ≡ self.now }
-        ensures rising { IsPeerSet result.now }
-    {
-        self.peers.as_slice()
     }
 
     /// Whether a peer is there.

@@ -14,16 +14,16 @@ use Rattle.b1_model.specs.MachineParts.{NodePart, HandleRecord, Slice, carried, 
 use Rattle.b1_model.specs.MachinePool.{slice_at, slice_len, is_free, taken, taken_offset, given_back, published, largest_free}
 use Rattle.b1_model.specs.MachineTables.{foreign}
 use Rattle.b1_step.specs.Rights.{Has}
-use Rattle.b1_store.specs.Slices.{IsPool, is_used, is_queued, len_at}
-use Rattle.b1_store.proofs.Found.{used_at-found, used_at-slice, used-is_queued, used-len_at}
-use Rattle.b1_store.proofs.Fits.{IsLength-slice_len}
-use Rattle.b1_store.proofs.Laws.{taken_offset-new, slice_at-taken, taken-stays, published-stays, given_back-stays}
-use Rattle.b1_carry.specs.Carry.{AreCarried, may_arrive}
-use Rattle.b1_parts.specs.Needs.{IsSlot, AreSlots}
-use Rattle.b1_parts.specs.PeerOk.{AreOk, times, flight_in}
-use Rattle.b1_parts.specs.Changes.{KeepsOthers, Takes}
-use Rattle.b1_parts.proofs.Counts.{one}
-use Rattle.b1_parts.proofs.RecordFields.{times_cons, times_foreign, same_or_apart}
+use Rattle.b1_peer_pool.specs.Slices.{IsPool, is_used, is_queued, len_at}
+use Rattle.b1_peer_pool.proofs.Found.{used_at-found, used_at-slice, used-is_queued, used-len_at}
+use Rattle.b1_peer_pool.proofs.Fits.{IsLength-slice_len}
+use Rattle.b1_peer_pool.proofs.Laws.{taken_offset-new, slice_at-taken, taken-stays, published-stays, given_back-stays}
+use Rattle.b1_peer_carried.specs.Carry.{AreCarried, may_arrive}
+use Rattle.b1_inv_peer.specs.Needs.{IsSlot, AreSlots}
+use Rattle.b1_inv_peer.specs.PeerOk.{AreOk, times, flight_in}
+use Rattle.b1_inv_peer.specs.Changes.{KeepsOthers, Takes}
+use Rattle.b1_inv_peer.proofs.Counts.{one}
+use Rattle.b1_inv_peer.proofs.RecordFields.{times_cons, times_foreign, same_or_apart}
 
 -- ---- elements
 

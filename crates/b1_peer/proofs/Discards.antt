@@ -14,9 +14,9 @@ use Rattle.b1_model.specs.MachineReceive.{discarded, cleared, received, received
 use Rattle.b1_step.specs.Rights.{Has}
 use Rattle.b1_step.specs.Ordered.{Rising}
 use Rattle.b1_step.proofs.Records.{kept_unexpected}
-use Rattle.b1_parts.specs.Needs.{HeldFew}
-use Rattle.b1_parts.specs.PeerOk.{SliceOk}
-use Rattle.b1_parts.proofs.Clearing.{part_one, front_one, removed_one, cleared_none, removed_none, cleared_empty, removed_empty}
+use Rattle.b1_inv_peer.specs.Needs.{HeldFew}
+use Rattle.b1_inv_peer.specs.PeerOk.{SliceOk}
+use Rattle.b1_inv_peer.proofs.Clearing.{part_one, front_one, removed_one, cleared_none, removed_none, cleared_empty, removed_empty}
 use Rattle.b1_peer.specs.State.{Fields, IsPeer, part_of}
 use Rattle.b1_peer.specs.Fronts.{goes_by, front_goes, without_by, front_gone, StillReceived}
 use Rattle.b1_peer.proofs.Bridges.{queued_slice, others_given_back}

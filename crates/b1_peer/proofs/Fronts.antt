@@ -6,8 +6,8 @@ use Rattle.b1_model.specs.declared.naming.NodeRef.{NodeRef}
 use Rattle.b1_model.specs.declared.entries.Entry.{Entry}
 use Rattle.b1_model.specs.declared.entries.Entry.TheVariants.{Message, OwnNotice, ForeignNotice, ReleaseNotice}
 use Rattle.b1_model.specs.MachineParts.{is_data, is_odd, is_staged}
-use Rattle.b1_parts.specs.Changes.{Removes}
-use Rattle.b1_parts.proofs.QueueEvents.{removes_front}
+use Rattle.b1_inv_peer.specs.Changes.{Removes}
+use Rattle.b1_inv_peer.proofs.QueueEvents.{removes_front}
 use Rattle.b1_peer.specs.declared.front.Kind.TheVariants as kind
 use Rattle.b1_peer.specs.Fronts.{kind_by, kind_of}
 

@@ -14,9 +14,9 @@ use Rattle.b1_model.specs.MachineEvents.{begin_by}
 use Rattle.b1_model.specs.declared.commands.SendCmd.{SendCmd}
 use Rattle.b1_model.specs.declared.parts.NodeState.TheVariants.{Live}
 use Rattle.b1_nodes.specs.Nodes.{Nodes}
-use Rattle.b1_mail.specs.Mail.{Mail}
-use Rattle.b1_parts.proofs.NodeEvents.{all_made_ok}
-use Rattle.b1_parts.proofs.Rooms.{places_most, unnoticed_most}
+use Rattle.b1_peer_queue.specs.Mail.{Mail}
+use Rattle.b1_inv_peer.proofs.NodeEvents.{all_made_ok}
+use Rattle.b1_inv_peer.proofs.Rooms.{places_most, unnoticed_most}
 use Rattle.b1_peer.specs.Answers.{Begins}
 use Rattle.b1_peer.specs.State.{Fields, IsPeer, part_of, seen_of}
 use Rattle.b1_step.specs.Rights.{Has}

@@ -17,16 +17,16 @@ use Rattle.b1_step.proofs.Orders.{new_without}
 use Rattle.b1_step.proofs.Queues.{without_has}
 use Rattle.b1_queue.proofs.Entries.{AllPairs-head, AllPairs-tail}
 use Rattle.b1_nodes.specs.Nodes.{Nodes, node_in, AllMade, holders}
-use Rattle.b1_mail.specs.Mail.{Mail}
+use Rattle.b1_peer_queue.specs.Mail.{Mail}
 use Rattle.b1_doom.proofs.Doomed.{no_more}
-use Rattle.b1_parts.specs.Needs.{StagesAnew}
-use Rattle.b1_parts.specs.PeerOk.{count, is_notice_of, IsRoom}
-use Rattle.b1_parts.proofs.Counts.{none_found}
-use Rattle.b1_parts.proofs.Entries.{all_put}
-use Rattle.b1_parts.proofs.CommitEvents.{notice_put}
-use Rattle.b1_parts.proofs.NodeEvents.{own_node, other_node, released_doomed}
-use Rattle.b1_parts.proofs.DestroyEvents.{new_put, none_unreleased}
-use Rattle.b1_parts.proofs.Rooms.{room_released, room_for_notice, room_notice_put}
+use Rattle.b1_inv_peer.specs.Needs.{StagesAnew}
+use Rattle.b1_inv_peer.specs.PeerOk.{count, is_notice_of, IsRoom}
+use Rattle.b1_inv_peer.proofs.Counts.{none_found}
+use Rattle.b1_inv_peer.proofs.Entries.{all_put}
+use Rattle.b1_inv_peer.proofs.CommitEvents.{notice_put}
+use Rattle.b1_inv_peer.proofs.NodeEvents.{own_node, other_node, released_doomed}
+use Rattle.b1_inv_peer.proofs.DestroyEvents.{new_put, none_unreleased}
+use Rattle.b1_inv_peer.proofs.Rooms.{room_released, room_for_notice, room_notice_put}
 use Rattle.b1_peer.specs.State.{Fields, IsPeer, ContentOk, part_of, seen_of}
 use Rattle.b1_peer.specs.Destructions.{notice_key, without_release, own_noticed, all_own_noticed, OwnNoticesFit}
 

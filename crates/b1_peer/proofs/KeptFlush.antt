@@ -5,11 +5,11 @@ use Rattle.b1_model.specs.declared.entries.Entry.{Entry}
 use Rattle.b1_model.specs.MachineParts.{HandleRecord}
 use Rattle.b1_step.specs.Rights.{Has}
 use Rattle.b1_handles.specs.Handles.{Handles}
-use Rattle.b1_mail.specs.Mail.{Mail}
-use Rattle.b1_store.specs.Stored.{Stored, IsStored}
-use Rattle.b1_stock.specs.Dead.{DeadSeen}
-use Rattle.b1_parts.specs.PeerOk.{AreOk, IsRoom}
-use Rattle.b1_parts.proofs.FlushEvents.{emptied_ok, room_emptied}
+use Rattle.b1_peer_queue.specs.Mail.{Mail}
+use Rattle.b1_peer_pool.specs.Stored.{Stored, IsStored}
+use Rattle.b1_peer_dead.specs.Dead.{DeadSeen}
+use Rattle.b1_inv_peer.specs.PeerOk.{AreOk, IsRoom}
+use Rattle.b1_inv_peer.proofs.FlushEvents.{emptied_ok, room_emptied}
 use Rattle.b1_peer.specs.State.{Fields, IsPeer}
 
 abbrev Queue : Type 0

@@ -9,13 +9,13 @@ use Rattle.b1_model.specs.MachineParts.{is_live, is_release_notice}
 use Rattle.b1_model.specs.MachineTables.{is_unheld, count_of, uncounted, with_node}
 use Rattle.b1_step.specs.Rights.{Has}
 use Rattle.b1_nodes.specs.Nodes.{Nodes, node_in}
-use Rattle.b1_mail.specs.Mail.{Mail}
-use Rattle.b1_parts.specs.PeerOk.{count, is_notice_of, IsRoom}
-use Rattle.b1_parts.proofs.Counts.{none_count, count_none}
-use Rattle.b1_parts.proofs.Entries.{all_put}
-use Rattle.b1_parts.proofs.CommitEvents.{notice_put}
-use Rattle.b1_parts.proofs.NodeEvents.{own_node, node_dropped, none_queued}
-use Rattle.b1_parts.proofs.Rooms.{room_for_notice, room_notice_put}
+use Rattle.b1_peer_queue.specs.Mail.{Mail}
+use Rattle.b1_inv_peer.specs.PeerOk.{count, is_notice_of, IsRoom}
+use Rattle.b1_inv_peer.proofs.Counts.{none_count, count_none}
+use Rattle.b1_inv_peer.proofs.Entries.{all_put}
+use Rattle.b1_inv_peer.proofs.CommitEvents.{notice_put}
+use Rattle.b1_inv_peer.proofs.NodeEvents.{own_node, node_dropped, none_queued}
+use Rattle.b1_inv_peer.proofs.Rooms.{room_for_notice, room_notice_put}
 use Rattle.b1_peer.specs.State.{Fields, IsPeer, ContentOk}
 use Rattle.b1_peer.specs.Destructions.{with_entry}
 

@@ -16,15 +16,15 @@ use Rattle.b1_step.proofs.Lookups.{rising_made}
 use Rattle.b1_nodes.specs.Nodes.{Nodes}
 use Rattle.b1_nodes.proofs.NodeLemmas.{length-with_nodes}
 use Rattle.b1_handles.specs.Handles.{Handles, wired, given_for}
-use Rattle.b1_mail.specs.Mail.{Mail}
-use Rattle.b1_store.specs.Stored.{IsStored}
-use Rattle.b1_stock.specs.Dead.{DeadSeen}
-use Rattle.b1_parts.specs.Needs.{AreDying}
-use Rattle.b1_parts.specs.PeerOk.{count, is_notice_for, is_message, AreOk, IsRoom}
-use Rattle.b1_parts.proofs.RecordFields.{field_stays_made, unneeded_flight, unneeded_notice}
-use Rattle.b1_parts.proofs.RecordLists.{needed_made, held_needs, one_more_made, unnoticed_made}
-use Rattle.b1_parts.proofs.NodeEvents.{node_in, node_without_notice, destroyed_ok, made_ok}
-use Rattle.b1_parts.proofs.Rooms.{places_most, unnoticed_most, count_most}
+use Rattle.b1_peer_queue.specs.Mail.{Mail}
+use Rattle.b1_peer_pool.specs.Stored.{IsStored}
+use Rattle.b1_peer_dead.specs.Dead.{DeadSeen}
+use Rattle.b1_inv_peer.specs.Needs.{AreDying}
+use Rattle.b1_inv_peer.specs.PeerOk.{count, is_notice_for, is_message, AreOk, IsRoom}
+use Rattle.b1_inv_peer.proofs.RecordFields.{field_stays_made, unneeded_flight, unneeded_notice}
+use Rattle.b1_inv_peer.proofs.RecordLists.{needed_made, held_needs, one_more_made, unnoticed_made}
+use Rattle.b1_inv_peer.proofs.NodeEvents.{node_in, node_without_notice, destroyed_ok, made_ok}
+use Rattle.b1_inv_peer.proofs.Rooms.{places_most, unnoticed_most, count_most}
 use Rattle.b1_peer.specs.State.{Fields, IsPeer, part_of}
 
 abbrev Queue : Type 0

@@ -21,23 +21,23 @@ use Rattle.b1_model.specs.MachineReceive.{Arriving, slot_arrives, slots_arrived,
 use Rattle.b1_step.specs.Rights.{Has}
 use Rattle.b1_step.specs.Ordered.{Rising}
 use Rattle.b1_handles.specs.Handles.{Handles}
-use Rattle.b1_mail.specs.Mail.{Mail}
+use Rattle.b1_peer_queue.specs.Mail.{Mail}
 use Rattle.b1_pool.specs.Bytes.{written}
-use Rattle.b1_store.specs.Content.{Holds, padded, padded_len, number_bytes, message_bytes, SameElsewhere}
-use Rattle.b1_store.proofs.Holding.{Holds-message}
-use Rattle.b1_store.proofs.Filling.{ends_within}
-use Rattle.b1_store.specs.Slices.{is_queued, is_unpublished, len_at}
-use Rattle.b1_store.specs.Stored.{Stored, IsStored}
-use Rattle.b1_store.proofs.Fits.{padded_len-within}
-use Rattle.b1_stock.specs.Dead.{DeadSeen}
-use Rattle.b1_carry.specs.Carry.{AreCarried, HasTables, arriving, may_arrive}
-use Rattle.b1_parts.specs.Needs.{AreSlots}
-use Rattle.b1_parts.specs.PeerOk.{is_message, begins_at, AreOk, IsRoom}
-use Rattle.b1_parts.specs.Changes.{LessFlight, KeepsOthers}
-use Rattle.b1_parts.proofs.Counts.{has_count}
-use Rattle.b1_parts.proofs.Flights.{slots_arrive}
-use Rattle.b1_parts.proofs.QueueEvents.{message_left, left_apart}
-use Rattle.b1_parts.proofs.Rooms.{room_message_left}
+use Rattle.b1_peer_pool.specs.Content.{Holds, padded, padded_len, number_bytes, message_bytes, SameElsewhere}
+use Rattle.b1_peer_pool.proofs.Holding.{Holds-message}
+use Rattle.b1_peer_pool.proofs.Filling.{ends_within}
+use Rattle.b1_peer_pool.specs.Slices.{is_queued, is_unpublished, len_at}
+use Rattle.b1_peer_pool.specs.Stored.{Stored, IsStored}
+use Rattle.b1_peer_pool.proofs.Fits.{padded_len-within}
+use Rattle.b1_peer_dead.specs.Dead.{DeadSeen}
+use Rattle.b1_peer_carried.specs.Carry.{AreCarried, HasTables, arriving, may_arrive}
+use Rattle.b1_inv_peer.specs.Needs.{AreSlots}
+use Rattle.b1_inv_peer.specs.PeerOk.{is_message, begins_at, AreOk, IsRoom}
+use Rattle.b1_inv_peer.specs.Changes.{LessFlight, KeepsOthers}
+use Rattle.b1_inv_peer.proofs.Counts.{has_count}
+use Rattle.b1_inv_peer.proofs.Flights.{slots_arrive}
+use Rattle.b1_inv_peer.proofs.QueueEvents.{message_left, left_apart}
+use Rattle.b1_inv_peer.proofs.Rooms.{room_message_left}
 use Rattle.b1_peer.specs.Seen.{PeerSeen}
 use Rattle.b1_peer.specs.State.{Fields, IsPeer, part_of, seen_of}
 use Rattle.b1_peer.specs.Arrivals.{HasArrived}

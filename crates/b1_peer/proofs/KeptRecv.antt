@@ -19,15 +19,15 @@ use Rattle.b1_model.specs.MachineReceive.{discarded, references, with_item, is_f
 use Rattle.b1_step.specs.Rights.{Has}
 use Rattle.b1_step.proofs.Orders.{same_ref_itself}
 use Rattle.b1_handles.specs.Handles.{Handles}
-use Rattle.b1_mail.specs.Mail.{Mail}
-use Rattle.b1_store.specs.Stored.{Stored, IsStored}
-use Rattle.b1_stock.specs.Dead.{DeadSeen}
-use Rattle.b1_parts.specs.PeerOk.{is_message, is_notice_for, is_notice_of, IsRoom, MessageOk, NoticeOk}
-use Rattle.b1_parts.specs.Changes.{Removes}
-use Rattle.b1_parts.proofs.Counts.{has_count}
-use Rattle.b1_parts.proofs.CommitEvents.{foreign_notice_left, notice_left}
-use Rattle.b1_parts.proofs.NodeEvents.{node_in, node_changed_ok}
-use Rattle.b1_parts.proofs.Rooms.{room_foreign_left, room_notice_left}
+use Rattle.b1_peer_queue.specs.Mail.{Mail}
+use Rattle.b1_peer_pool.specs.Stored.{Stored, IsStored}
+use Rattle.b1_peer_dead.specs.Dead.{DeadSeen}
+use Rattle.b1_inv_peer.specs.PeerOk.{is_message, is_notice_for, is_notice_of, IsRoom, MessageOk, NoticeOk}
+use Rattle.b1_inv_peer.specs.Changes.{Removes}
+use Rattle.b1_inv_peer.proofs.Counts.{has_count}
+use Rattle.b1_inv_peer.proofs.CommitEvents.{foreign_notice_left, notice_left}
+use Rattle.b1_inv_peer.proofs.NodeEvents.{node_in, node_changed_ok}
+use Rattle.b1_inv_peer.proofs.Rooms.{room_foreign_left, room_notice_left}
 use Rattle.b1_peer.specs.Seen.{PeerSeen}
 use Rattle.b1_peer.specs.State.{Fields, IsPeer, part_of, seen_of}
 use Rattle.b1_peer.specs.declared.front.Kind.{Kind}

@@ -19,23 +19,23 @@ use Rattle.b1_step.proofs.Queues.{without_has}
 use Rattle.b1_step.proofs.Lookups.{rising_changed}
 use Rattle.b1_nodes.specs.Nodes.{Nodes, node_in, attached, attached_by, attach_answer, counted_for}
 use Rattle.b1_handles.specs.Handles.{Handles}
-use Rattle.b1_mail.specs.Mail.{Mail, committed_queue, notices_queue, IsCommittable}
-use Rattle.b1_store.specs.Slices.{is_queued}
-use Rattle.b1_store.specs.Stored.{Stored, IsStored}
-use Rattle.b1_stock.specs.Dead.{DeadSeen}
-use Rattle.b1_carry.specs.Carry.{AreCarried}
-use Rattle.b1_parts.specs.Needs.{SlotsFit, CommitsAnew}
-use Rattle.b1_parts.specs.PeerOk.{count, is_notice_for, AreOk, IsRoom, SliceOk}
-use Rattle.b1_parts.specs.Changes.{Removes, LessFlight, KeepsOthers}
-use Rattle.b1_parts.proofs.Counts.{none_found}
-use Rattle.b1_parts.proofs.RecordFields.{field_stays, unneeded_flight, unneeded_notice}
-use Rattle.b1_parts.proofs.RecordLists.{needed_changed, fewer_changed, unnoticed_changed}
-use Rattle.b1_parts.proofs.Entries.{all_put, all_moved, slots_as_many}
-use Rattle.b1_parts.proofs.QueueEvents.{removes_found, message_left}
-use Rattle.b1_parts.proofs.CommitEvents.{message_is_committed, notices_are_committed}
-use Rattle.b1_parts.proofs.NodeEvents.{released_changed}
-use Rattle.b1_parts.proofs.Flights.{less_unexpected}
-use Rattle.b1_parts.proofs.Rooms.{room_records, room_message_left, room_committed, room_notices_committed, room_released}
+use Rattle.b1_peer_queue.specs.Mail.{Mail, committed_queue, notices_queue, IsCommittable}
+use Rattle.b1_peer_pool.specs.Slices.{is_queued}
+use Rattle.b1_peer_pool.specs.Stored.{Stored, IsStored}
+use Rattle.b1_peer_dead.specs.Dead.{DeadSeen}
+use Rattle.b1_peer_carried.specs.Carry.{AreCarried}
+use Rattle.b1_inv_peer.specs.Needs.{SlotsFit, CommitsAnew}
+use Rattle.b1_inv_peer.specs.PeerOk.{count, is_notice_for, AreOk, IsRoom, SliceOk}
+use Rattle.b1_inv_peer.specs.Changes.{Removes, LessFlight, KeepsOthers}
+use Rattle.b1_inv_peer.proofs.Counts.{none_found}
+use Rattle.b1_inv_peer.proofs.RecordFields.{field_stays, unneeded_flight, unneeded_notice}
+use Rattle.b1_inv_peer.proofs.RecordLists.{needed_changed, fewer_changed, unnoticed_changed}
+use Rattle.b1_inv_peer.proofs.Entries.{all_put, all_moved, slots_as_many}
+use Rattle.b1_inv_peer.proofs.QueueEvents.{removes_found, message_left}
+use Rattle.b1_inv_peer.proofs.CommitEvents.{message_is_committed, notices_are_committed}
+use Rattle.b1_inv_peer.proofs.NodeEvents.{released_changed}
+use Rattle.b1_inv_peer.proofs.Flights.{less_unexpected}
+use Rattle.b1_inv_peer.proofs.Rooms.{room_records, room_message_left, room_committed, room_notices_committed, room_released}
 use Rattle.b1_peer.specs.Seen.{PeerSeen}
 use Rattle.b1_peer.specs.State.{Fields, IsPeer, ContentOk, part_of, seen_of}
 use Rattle.b1_peer.proofs.Bridges.{queued_slice, message_queued, others_given_back, carried_here}

@@ -21,19 +21,19 @@ use Rattle.b1_model.specs.MachineTables.{put, is_stage, expected, foreign, over_
 use Rattle.b1_model.specs.MachineSend.{first_reason, stage_refusal, staged}
 use Rattle.b1_model.specs.MachineEvents.{stage_by}
 use Rattle.b1_handles.specs.Handles.{Handles}
-use Rattle.b1_mail.specs.Mail.{Mail, IsSound}
-use Rattle.b1_store.specs.Content.{Holds, padded, padded_len, SameElsewhere}
-use Rattle.b1_store.specs.Slices.{is_used}
-use Rattle.b1_store.specs.Stored.{Stored, IsStored, full_reason}
-use Rattle.b1_store.proofs.Found.{used_at-slice}
-use Rattle.b1_store.proofs.Fits.{full_reason-none, padded_len-within}
-use Rattle.b1_store.proofs.Holding.{length-padded, Holds-elsewhere}
-use Rattle.b1_stock.specs.Dead.{DeadSeen}
-use Rattle.b1_parts.specs.PeerOk.{is_message, begins_at, AreOk, IsRoom, MessageOk, SliceOk}
-use Rattle.b1_parts.specs.Changes.{Takes}
-use Rattle.b1_parts.proofs.Entries.{all_put, slice_not_free}
-use Rattle.b1_parts.proofs.QueueEvents.{message_staged}
-use Rattle.b1_parts.proofs.Rooms.{places_most, unnoticed_most, count_most, room_staged}
+use Rattle.b1_peer_queue.specs.Mail.{Mail, IsSound}
+use Rattle.b1_peer_pool.specs.Content.{Holds, padded, padded_len, SameElsewhere}
+use Rattle.b1_peer_pool.specs.Slices.{is_used}
+use Rattle.b1_peer_pool.specs.Stored.{Stored, IsStored, full_reason}
+use Rattle.b1_peer_pool.proofs.Found.{used_at-slice}
+use Rattle.b1_peer_pool.proofs.Fits.{full_reason-none, padded_len-within}
+use Rattle.b1_peer_pool.proofs.Holding.{length-padded, Holds-elsewhere}
+use Rattle.b1_peer_dead.specs.Dead.{DeadSeen}
+use Rattle.b1_inv_peer.specs.PeerOk.{is_message, begins_at, AreOk, IsRoom, MessageOk, SliceOk}
+use Rattle.b1_inv_peer.specs.Changes.{Takes}
+use Rattle.b1_inv_peer.proofs.Entries.{all_put, slice_not_free}
+use Rattle.b1_inv_peer.proofs.QueueEvents.{message_staged}
+use Rattle.b1_inv_peer.proofs.Rooms.{places_most, unnoticed_most, count_most, room_staged}
 use Rattle.b1_peer.specs.Seen.{PeerSeen, KeepsReceived}
 use Rattle.b1_peer.specs.State.{Fields, IsPeer, ContentOk, part_of, seen_of}
 use Rattle.b1_peer.specs.Rooms.{MoreRoom, Enough}

@@ -8,9 +8,9 @@ use Rattle.b1_model.specs.MachineParts.{NodePart, is_live, is_dying}
 use Rattle.b1_model.specs.MachineTables.{in_state, with_node, with_nodes}
 use Rattle.b1_step.specs.Rights.{Has}
 use Rattle.b1_nodes.specs.Nodes.{Nodes, node_in}
-use Rattle.b1_parts.specs.Needs.{AreDying}
-use Rattle.b1_parts.specs.PeerOk.{IsRoom}
-use Rattle.b1_parts.proofs.NodeEvents.{destroyed_ok}
+use Rattle.b1_inv_peer.specs.Needs.{AreDying}
+use Rattle.b1_inv_peer.specs.PeerOk.{IsRoom}
+use Rattle.b1_inv_peer.proofs.NodeEvents.{destroyed_ok}
 use Rattle.b1_peer.specs.State.{Fields, IsPeer, part_of}
 
 all_has : (P : ℕ → Type 0) (xs : List ℕ) → All P xs → (s : ℕ) → Has xs s → P s

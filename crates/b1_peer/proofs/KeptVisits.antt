@@ -9,12 +9,12 @@ use Rattle.b1_model.specs.MachineParts.{PeerPart, HandleRecord, record_of}
 use Rattle.b1_model.specs.MachineDestroy.{notice_by, visited_from, visited}
 use Rattle.b1_step.specs.Ordered.{NewKey}
 use Rattle.b1_handles.specs.Handles.{Handles, needs_notice}
-use Rattle.b1_mail.specs.Mail.{Mail}
-use Rattle.b1_parts.specs.Needs.{VisitsAnew}
-use Rattle.b1_parts.proofs.Entries.{all_put}
-use Rattle.b1_parts.proofs.CommitEvents.{foreign_notice_put}
-use Rattle.b1_parts.proofs.DestroyEvents.{new_put, still_needs}
-use Rattle.b1_parts.proofs.Rooms.{room_for_foreign, room_foreign_put}
+use Rattle.b1_peer_queue.specs.Mail.{Mail}
+use Rattle.b1_inv_peer.specs.Needs.{VisitsAnew}
+use Rattle.b1_inv_peer.proofs.Entries.{all_put}
+use Rattle.b1_inv_peer.proofs.CommitEvents.{foreign_notice_put}
+use Rattle.b1_inv_peer.proofs.DestroyEvents.{new_put, still_needs}
+use Rattle.b1_inv_peer.proofs.Rooms.{room_for_foreign, room_foreign_put}
 use Rattle.b1_peer.specs.State.{Fields, IsPeer, ContentOk, part_of, seen_of}
 use Rattle.b1_peer.specs.Destructions.{notice_key, Visiting, doomed_ref, notified_by, notified, all_notified, NoticesAreNew}
 use Rattle.b1_peer.proofs.KeptDestroys.{other_place}

@@ -12,7 +12,7 @@ use Rattle.b1_model.specs.Names.{invalid}
 use Rattle.b1_model.specs.MachineParts.{PeerPart, is_data, node_at, record_or_none}
 use Rattle.b1_model.specs.MachineTables.{changed, made_dead, with_node, notice_taken}
 use Rattle.b1_model.specs.MachineReceive.{front_taken}
-use Rattle.b1_parts.specs.PeerOk.{is_notice_of}
+use Rattle.b1_inv_peer.specs.PeerOk.{is_notice_of}
 use Rattle.b1_peer.specs.Seen.{PeerSeen}
 use Rattle.b1_peer.specs.State.{Fields, IsPeer, part_of, seen_of}
 use Rattle.b1_peer.specs.declared.front.Kind.TheVariants as kind

@@ -10,7 +10,7 @@ use Rattle.b1_model.specs.declared.answers.Reason.{Reason}
 use Rattle.b1_model.specs.declared.events.Outcome.TheVariants as out
 use Rattle.b1_model.specs.MachineParts.{PeerPart}
 use Rattle.b1_model.specs.MachineEvents.{begin_event, stage_event}
-use Rattle.b1_store.specs.Content.{Holds, message_bytes}
+use Rattle.b1_peer_pool.specs.Content.{Holds, message_bytes}
 
 -- a begin of a SEND, where want of memory may refuse what nothing else does
 pub record Begins (x : PeerPart) (c : SendCmd) (answer : Result Begun Reason) (y : PeerPart) : Type 0 where

@@ -7,7 +7,7 @@ use Rattle.b1_model.specs.Names.{is_own}
 use Rattle.b1_model.specs.MachineParts.{NodePart, HandleRecord, is_destroyed}
 use Rattle.b1_model.specs.MachineTables.{with_made}
 use Rattle.b1_nodes.specs.Nodes.{Nodes, node_in}
-use Rattle.b1_mail.specs.Mail.{Mail}
+use Rattle.b1_peer_queue.specs.Mail.{Mail}
 
 -- a node is made for an own number that names none
 abbrev pub one_made : ℕ → ℕ → List NodePart → List NodePart

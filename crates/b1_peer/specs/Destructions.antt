@@ -9,7 +9,7 @@ use Rattle.b1_model.specs.MachineParts.{HandleRecord, is_release_notice}
 use Rattle.b1_model.specs.MachineTables.{put, without, changed, noticed}
 use Rattle.b1_step.specs.Ordered.{NewKey}
 use Rattle.b1_handles.specs.Handles.{needs_notice}
-use Rattle.b1_mail.specs.Mail.{Mail}
+use Rattle.b1_peer_queue.specs.Mail.{Mail}
 
 -- the key of a notice that is staged at a place of the doomed list
 abbrev pub notice_key : ℕ → ℕ → ℕ → Key

@@ -6,7 +6,7 @@ use Rattle.b1_model.specs.declared.entries.Entry.{Entry}
 use Rattle.b1_model.specs.MachineParts.{carried, is_staged}
 use Rattle.b1_model.specs.MachineReceive.{references, with_item}
 use Rattle.b1_step.specs.Rights.{Has}
-use Rattle.b1_parts.specs.PeerOk.{is_message}
+use Rattle.b1_inv_peer.specs.PeerOk.{is_message}
 
 -- a committed message's references become an item of the dead list, if it has some
 abbrev pub item_of : Key × Entry → List (List (NodeRef × ℕ)) → List (List (NodeRef × ℕ))

@@ -1,8 +1,8 @@
 -- The room that a stage makes before it changes anything.
 use Rattle.std.specs.Prelude.{◌≡◌, ℕ, ◌+◌, ◌≤◌}
-use Rattle.b1_mail.specs.Mail.{Mail}
-use Rattle.b1_store.specs.Stored.{Stored, IsStored}
-use Rattle.b1_stock.specs.Dead.{DeadSeen}
+use Rattle.b1_peer_queue.specs.Mail.{Mail}
+use Rattle.b1_peer_pool.specs.Stored.{Stored, IsStored}
+use Rattle.b1_peer_dead.specs.Dead.{DeadSeen}
 
 -- only room is gained
 pub record MoreRoom (mail new_mail : Mail) (store new_store : Stored) (dead new_dead : DeadSeen) (numbers new_numbers : ℕ) : Type 0 where

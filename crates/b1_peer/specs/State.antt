@@ -7,11 +7,11 @@ use Rattle.b1_model.specs.MachineParts.{PeerPart}
 use Rattle.b1_step.specs.Rights.{Has}
 use Rattle.b1_nodes.specs.Nodes.{Nodes}
 use Rattle.b1_handles.specs.Handles.{Handles}
-use Rattle.b1_mail.specs.Mail.{Mail}
-use Rattle.b1_store.specs.Content.{Holds, padded}
-use Rattle.b1_store.specs.Stored.{Stored, IsStored}
-use Rattle.b1_stock.specs.Dead.{DeadSeen}
-use Rattle.b1_parts.specs.PeerOk.{PeerOk, HasRoom}
+use Rattle.b1_peer_queue.specs.Mail.{Mail}
+use Rattle.b1_peer_pool.specs.Content.{Holds, padded}
+use Rattle.b1_peer_pool.specs.Stored.{Stored, IsStored}
+use Rattle.b1_peer_dead.specs.Dead.{DeadSeen}
+use Rattle.b1_inv_peer.specs.PeerOk.{PeerOk, HasRoom}
 use Rattle.b1_peer.specs.Seen.{PeerSeen}
 
 -- what a peer is made of; `numbers` is how many buffers for received numbers there are

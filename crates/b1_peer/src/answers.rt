@@ -2,7 +2,7 @@ ghost use Rattle.std.specs.Prelude.{◌≡◌, ◌<◌, ◌-◌, true, false, So
 ghost use Rattle.b1_model.specs.declared.answers.Reason.TheVariants as reason;
 ghost use Rattle.b1_model.specs.MachinePool.{is_received};
 ghost use Rattle.b1_model.specs.MachineReceive.{has_dead as has_dead_item, reaped, reaped_part, released, released_part, slice_released};
-ghost use Rattle.b1_parts.specs.PeerOk.{PeerOk};
+ghost use Rattle.b1_inv_peer.specs.PeerOk.{PeerOk};
 
 use crate::state::PeerState;
 use b1_model::{Dead, Owed, PeerSpec, Reason, Received};

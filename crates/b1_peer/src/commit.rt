@@ -2,7 +2,7 @@ ghost use Rattle.std.specs.Prelude.{◌≡◌, ◌+◌, ◌-◌, ◌<◌, ◌^�
 ghost use Rattle.b1_model.specs.MachineParts.{node_at};
 ghost use Rattle.b1_model.specs.MachineTables.{count_of};
 ghost use Rattle.b1_model.specs.MachineSend.{find_stage, unstaged, attach_answer, attached, final_stamp, stamped, synced, is_committed, committed, notices_committed};
-ghost use Rattle.b1_parts.specs.Needs.{IsClock, SlotsFit, CommitsAnew};
+ghost use Rattle.b1_inv_peer.specs.Needs.{IsClock, SlotsFit, CommitsAnew};
 ghost use Rattle.b1_peer.specs.Notices.{NoticesFit};
 
 use crate::leave::take_back;

@@ -4,7 +4,7 @@ ghost use Rattle.b1_model.specs.MachineParts.{is_live};
 ghost use Rattle.b1_model.specs.MachineDestroy.{destroy_refusal, destroy_serials, overflow_reason, reset_serials, visit_set, doomed_part, visit_answer, visited, doom_answer, doom_stamped};
 ghost use Rattle.b1_model.specs.MachineEvents.{destroy_by};
 ghost use Rattle.b1_nodes.specs.Nodes.{AllMade};
-ghost use Rattle.b1_parts.specs.Needs.{IsClock, StagesAnew, VisitsAnew, AreDying};
+ghost use Rattle.b1_inv_peer.specs.Needs.{IsClock, StagesAnew, VisitsAnew, AreDying};
 
 use crate::notices::{stage_foreign, stage_own};
 use crate::state::PeerState;

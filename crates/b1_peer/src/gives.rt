@@ -2,7 +2,7 @@ ghost use Rattle.std.specs.Prelude.{◌≡◌, ◌≤◌, ◌<◌, length};
 ghost use Rattle.b1_model.specs.MachineParts.{node_at};
 ghost use Rattle.b1_model.specs.MachineTables.{count_of};
 ghost use Rattle.b1_model.specs.MachineReceive.{dropped};
-ghost use Rattle.b1_parts.specs.Needs.{IsClock, ReleasesAnew};
+ghost use Rattle.b1_inv_peer.specs.Needs.{IsClock, ReleasesAnew};
 
 use crate::state::PeerState;
 use b1_model::{Entry, Key};

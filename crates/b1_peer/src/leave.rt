@@ -6,18 +6,18 @@ ghost use Rattle.b1_model.specs.MachinePool.{given_back};
 ghost use Rattle.b1_model.specs.MachineTables.{unexpected, foreign};
 ghost use Rattle.b1_model.specs.MachineSend.{offset_of};
 ghost use Rattle.b1_model.specs.MachineReceive.{references, with_item};
-ghost use Rattle.b1_store.specs.Slices.{is_queued};
-ghost use Rattle.b1_store.specs.Stored.{IsStored};
-ghost use Rattle.b1_carry.specs.Carry.{AreCarried};
+ghost use Rattle.b1_peer_pool.specs.Slices.{is_queued};
+ghost use Rattle.b1_peer_pool.specs.Stored.{IsStored};
+ghost use Rattle.b1_peer_carried.specs.Carry.{AreCarried};
 
-use b1_carry::unexpect_all;
+use b1_peer_carried::unexpect_all;
 use b1_handles::HandleTable;
-use b1_mail::Mailbox;
+use b1_peer_queue::Mailbox;
 use b1_model::{Entry, Key};
 use b1_pool::PoolKind;
 use b1_queue::QueueKind;
-use b1_stock::DeadList;
-use b1_store::Store;
+use b1_peer_dead::DeadList;
+use b1_peer_pool::Store;
 
 /// Gives a message's slice back, and counts one fewer queued slot for each node of another peer that it carries.
 pub fn take_back<P: PoolKind>(

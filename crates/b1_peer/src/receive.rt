@@ -5,20 +5,20 @@ ghost use Rattle.b1_model.specs.declared.answers.Receipt.TheVariants as receipts
 ghost use Rattle.b1_model.specs.MachineParts.{PeerPart};
 ghost use Rattle.b1_model.specs.MachinePool.{published};
 ghost use Rattle.b1_model.specs.MachineTables.{foreign};
-ghost use Rattle.b1_store.specs.Content.{Holds, padded, padded_len, SameElsewhere};
-ghost use Rattle.b1_store.specs.Slices.{is_queued, len_at};
-ghost use Rattle.b1_store.specs.Stored.{IsStored};
-ghost use Rattle.b1_carry.specs.Carry.{AreCarried, HasTables, may_arrive};
+ghost use Rattle.b1_peer_pool.specs.Content.{Holds, padded, padded_len, SameElsewhere};
+ghost use Rattle.b1_peer_pool.specs.Slices.{is_queued, len_at};
+ghost use Rattle.b1_peer_pool.specs.Stored.{IsStored};
+ghost use Rattle.b1_peer_carried.specs.Carry.{AreCarried, HasTables, may_arrive};
 ghost use Rattle.b1_peer.specs.Answers.{IsDelivered};
 ghost use Rattle.b1_peer.specs.Arrivals.{HasArrived};
 
-use b1_carry::arrive;
+use b1_peer_carried::arrive;
 use b1_handles::HandleTable;
 use b1_model::{Bytes, Key, NodeRef, Nums, Receipt, Slot};
 use b1_nodes::NodeTable;
 use b1_pool::PoolKind;
-use b1_stock::DeadList;
-use b1_store::{Store, padded_length};
+use b1_peer_dead::DeadList;
+use b1_peer_pool::{Store, padded_length};
 
 /// The receipt of a message: its slots arrive, its slice is published with the handles' numbers, and the references that
 /// are given up at once come on the dead list.

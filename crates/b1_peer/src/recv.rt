@@ -5,7 +5,7 @@ ghost use Rattle.b1_peer.specs.Seen.{KeepsReceived};
 ghost use Rattle.b1_peer.specs.Answers.{IsDelivered};
 ghost use Rattle.b1_peer.specs.Fronts.{kind_of, front_goes, front_gone, StillReceived, GoesWell};
 ghost use Rattle.b1_peer.specs.declared.front.Kind.TheVariants as kinds;
-ghost use Rattle.b1_parts.specs.Needs.{HeldFew};
+ghost use Rattle.b1_inv_peer.specs.Needs.{HeldFew};
 
 use crate::front::Kind;
 use crate::leave::{drop_message, take_key};

@@ -1,14 +1,14 @@
 //! The room that a stage makes before it changes anything.
 
 ghost use Rattle.std.specs.Prelude.{◌+◌, length, OnOk};
-ghost use Rattle.b1_store.specs.Stored.{IsStored};
+ghost use Rattle.b1_peer_pool.specs.Stored.{IsStored};
 ghost use Rattle.b1_peer.specs.Rooms.{MoreRoom, Enough};
 
-use b1_mail::Mailbox;
+use b1_peer_queue::Mailbox;
 use b1_pool::PoolKind;
 use b1_queue::QueueKind;
-use b1_stock::{DeadList, Stock};
-use b1_store::Store;
+use b1_peer_dead::{DeadList, Stock};
+use b1_peer_pool::Store;
 use std::alloc::AllocError;
 
 /// Makes room for one more message, and for the notices and dead items of `most` nodes and records. An error is want of

@@ -10,7 +10,7 @@ use b1_doom::overflow;
 use b1_model::{Begun, NodeRef, NodeRefs, Reason, SendCmd};
 use b1_pool::PoolKind;
 use b1_queue::QueueKind;
-use b1_stock::put_last;
+use b1_peer_dead::put_last;
 
 impl<Q: QueueKind, P: PoolKind> PeerState<Q, P> {
     /// The first refusal of a SEND at its sender, want of memory aside. It takes no memory.

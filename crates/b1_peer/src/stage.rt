@@ -6,11 +6,11 @@ ghost use Rattle.b1_model.specs.MachineSend.{find_stage, stage_refusal};
 ghost use Rattle.b1_step.specs.Ordered.{NewKey};
 ghost use Rattle.b1_peer.specs.Seen.{KeepsReceived};
 ghost use Rattle.b1_peer.specs.Answers.{Stages};
-ghost use Rattle.b1_parts.specs.Needs.{IsClock};
+ghost use Rattle.b1_inv_peer.specs.Needs.{IsClock};
 
 use crate::rooms::make_room;
 use crate::state::PeerState;
-use b1_carry::expect_all;
+use b1_peer_carried::expect_all;
 use b1_model::{Bytes, Entry, Key, NodeRef, NodeRefs, NodeState, Nums, Reason, Slot, Slots};
 use b1_pool::PoolKind;
 use b1_queue::QueueKind;

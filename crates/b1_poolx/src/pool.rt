@@ -8,7 +8,7 @@ use crate::changes::{cancel, release, take};
 use crate::sizes::{find, find_uncounted, last_length_of};
 use b1_pool::places::publish_at;
 use b1_pool::{Full, Memory, NoSlice, PoolKind, Slice, SliceState};
-use b1_steps::Steps;
+use b1_cost::Steps;
 use std::alloc::Global;
 use std::marker::Model;
 use std::sync::ledger::Ledger;

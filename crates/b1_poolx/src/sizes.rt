@@ -7,7 +7,7 @@ ghost use Rattle.b1_poolx.specs.Sizes.{placed, without, IsBySize, last_length, f
 
 use b1_pool::Slice;
 use b1_pool::places::comes_before;
-use b1_steps::Steps;
+use b1_cost::Steps;
 use std::marker::Brand;
 use std::sync::ledger::{Blank, Ledger};
 

@@ -4,7 +4,7 @@ ghost use Rattle.std.specs.Prelude.{◌≡◌, ℕ, ◌%◌, ◌<◌, ◌≤◌}
 
 use crate::pool::SizedPool;
 use b1_pool::{ListPool, Memory, PoolKind};
-use b1_steps::Steps;
+use b1_cost::Steps;
 use std::marker::Brand;
 use std::sync::ledger::{Blank, Ledger};
 use std::test::Fail;

@@ -31,8 +31,8 @@ use Rattle.b1_model.specs.MachineStep.{Step, begun_by, aimed, done_by, effect_by
 use Rattle.b1_step.specs.Rights.{Has}
 use Rattle.b1_step.proofs.Lists.{sum_set}
 use Rattle.b1_step.proofs.Orders.{same_ref_itself}
-use Rattle.b1_shape.specs.References.{ReferencesRight}
-use Rattle.b1_shape.specs.Sound.{IsSound}
+use Rattle.b1_inv.specs.References.{ReferencesRight}
+use Rattle.b1_inv.specs.Sound.{IsSound}
 use Rattle.b1_schedule.specs.Schedule.{Ending, Open, Called, Waits, removed_by}
 use Rattle.b1_inv_tools.proofs.Leaves.{Did, step_did, turned_open, driver_cases}
 use Rattle.b1_progress.specs.Level.{peer_level, level, some_removed, gain_shown, gain_in, gain_so_far, gain_after, IsAttempt, AttemptsAnswered}

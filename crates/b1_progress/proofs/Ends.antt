@@ -12,9 +12,9 @@ use Rattle.b1_model.specs.MachineTook.{turned, with_facts}
 use Rattle.b1_model.specs.MachineEvents.{happens}
 use Rattle.b1_model.specs.MachineStep.{Step}
 use Rattle.b1_step.specs.Fixed.{IsNumbered}
-use Rattle.b1_shape.specs.Words.{IsPeer}
-use Rattle.b1_shape.specs.Sends.{SendShape, SendsRight}
-use Rattle.b1_shape.specs.Notices.{DestructionShape, NoticesRight}
+use Rattle.b1_inv.specs.Words.{IsPeer}
+use Rattle.b1_inv.specs.Sends.{SendShape, SendsRight}
+use Rattle.b1_inv.specs.Notices.{DestructionShape, NoticesRight}
 use Rattle.b1_inv_tools.proofs.Leaves.{Did, step_did, new_peer, same_peer}
 use Rattle.b1_inv_sends.proofs.Events.{next_of, next_owed}
 use Rattle.b1_progress.specs.Work.{work, kept_weight, phase_weight}

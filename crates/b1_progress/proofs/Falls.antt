@@ -12,7 +12,7 @@ use Rattle.b1_model.specs.declared.events.Phase.TheVariants.{Staging, Unstaging,
 use Rattle.b1_model.specs.declared.events.Sending.{Sending}
 use Rattle.b1_model.specs.MachineDriver.{Turn, Goes, Ends, next_accepted, accepted_from, is_place, attaching, all_staged, all_refused, staging, unstaging, place_done, syncing, send_of}
 use Rattle.b1_model.specs.MachineTook.{is_done}
-use Rattle.b1_shape.specs.Words.{is_accepted_place}
+use Rattle.b1_inv.specs.Words.{is_accepted_place}
 use Rattle.b1_progress.specs.Work.{phase_weight, commit_weight, sync_weight, stamp_weight, attach_weight, stage_weight}
 
 -- after a turn to a phase that isn't done there, less is left than the bound; an end leaves nothing

@@ -23,9 +23,9 @@ use Rattle.b1_model.specs.MachineEvents.{happens, stage_by, slots_at, limits_aft
 use Rattle.b1_model.specs.MachineSend.{stage_refusal, attach_answer, is_committed, final_stamp}
 use Rattle.b1_model.specs.MachineReceive.{reference_of, reaped_part, dropped, dropped_refs, is_released, with_release_notice}
 use Rattle.b1_model.specs.MachineDestroy.{doom_by}
-use Rattle.b1_shape.specs.Words.{is_accepted_place}
-use Rattle.b1_shape.specs.Sends.{SendShape}
-use Rattle.b1_shape.specs.Notices.{DestructionShape}
+use Rattle.b1_inv.specs.Words.{is_accepted_place}
+use Rattle.b1_inv.specs.Sends.{SendShape}
+use Rattle.b1_inv.specs.Notices.{DestructionShape}
 use Rattle.b1_progress.specs.Work.{kept_weight, phase_weight, queue_weight, handles_weight, dead_weight}
 use Rattle.b1_progress.proofs.Weights.{filter_map_length, zip_length}
 use Rattle.b1_progress.proofs.Kept.{stage_kept, unstage_kept, attach_kept, commit_kept, notices_kept, drop_kept, doom_kept, flush_kept}

@@ -2,8 +2,8 @@ ghost use Rattle.std.specs.Prelude.{◌≡◌, ◌≢◌, ◌<◌, ℕ, None};
 ghost use Rattle.b1_model.specs.declared.naming.Opening.{Opening};
 ghost use Rattle.b1_model.specs.MachineParts.{PeerPart, DriverPart, State};
 ghost use Rattle.b1_model.specs.MachineStep.{Step};
-ghost use Rattle.b1_shape.specs.Words.{IsPeer, IsDriver};
-ghost use Rattle.b1_shape.specs.Sound.{IsSound};
+ghost use Rattle.b1_inv.specs.Words.{IsPeer, IsDriver};
+ghost use Rattle.b1_inv.specs.Sound.{IsSound};
 ghost use Rattle.b1_progress.specs.Work.{work};
 
 /// Where only one driver steps, its open command ends: each step that leaves it open leaves less work.

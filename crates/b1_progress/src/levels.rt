@@ -5,7 +5,7 @@ ghost use Rattle.b1_model.specs.declared.commands.Command.{Command};
 ghost use Rattle.b1_model.specs.declared.commands.Command.TheVariants as cmd;
 ghost use Rattle.b1_model.specs.MachineParts.{State};
 ghost use Rattle.b1_model.specs.MachineStep.{Step, opening_state};
-ghost use Rattle.b1_shape.specs.Sound.{IsSound};
+ghost use Rattle.b1_inv.specs.Sound.{IsSound};
 ghost use Rattle.b1_progress.specs.Level.{gain_after, gain_so_far, level, AttemptsAnswered, IsAttempt};
 
 /// Every open attempt to receive has its answer.

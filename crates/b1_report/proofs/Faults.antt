@@ -5,17 +5,17 @@ use Rattle.b1_errs.specs.declared.Cause.TheVariants as cause
 use Rattle.b1_errs.specs.declared.NotRead.{NotRead}
 use Rattle.b1_errs.specs.declared.NotRead.TheVariants as not_read
 use Rattle.b1_model.specs.declared.records.Record.{Record}
-use Rattle.b1_answers.specs.declared.lines.Line.{Line}
-use Rattle.b1_answers.specs.declared.lines.Line.TheVariants as line
-use Rattle.b1_answers.specs.declared.lines.Place.{Place}
-use Rattle.b1_answers.specs.declared.lines.Place.TheVariants as place
-use Rattle.b1_answers.specs.declared.unread.Stop.TheVariants.{Cut, Broken}
-use Rattle.b1_answers.specs.declared.unread.Unread.{Unread}
-use Rattle.b1_answers.specs.declared.unread.Unread.TheVariants as unread
-use Rattle.b1_answers.specs.Lines.{line_text, next_place, MayStand, IsLineText, IsOnlyLine, BeginLine, TellsLine}
-use Rattle.b1_answers.specs.Reading.{split_once}
-use Rattle.b1_answers.proofs.FreeLines.{line_in_line}
-use Rattle.b1_answers.proofs.Splitting.{IsFree, free_tail, split_found}
+use Rattle.b1_report_lines.specs.declared.lines.Line.{Line}
+use Rattle.b1_report_lines.specs.declared.lines.Line.TheVariants as line
+use Rattle.b1_report_lines.specs.declared.lines.Place.{Place}
+use Rattle.b1_report_lines.specs.declared.lines.Place.TheVariants as place
+use Rattle.b1_report_lines.specs.declared.unread.Stop.TheVariants.{Cut, Broken}
+use Rattle.b1_report_lines.specs.declared.unread.Unread.{Unread}
+use Rattle.b1_report_lines.specs.declared.unread.Unread.TheVariants as unread
+use Rattle.b1_report_lines.specs.Lines.{line_text, next_place, MayStand, IsLineText, IsOnlyLine, BeginLine, TellsLine}
+use Rattle.b1_report_lines.specs.Reading.{split_once}
+use Rattle.b1_report_lines.proofs.FreeLines.{line_in_line}
+use Rattle.b1_report_lines.proofs.Splitting.{IsFree, free_tail, split_found}
 use Rattle.b1_report.specs.Parsing.{IsReport, CanGoOn, AreLines, first_line, LineBreaks, IsFault, TellsFault, WasRead}
 use Rattle.b1_report.specs.Runs.{IsRun, run_text, AreAllLines, CanFollow, TellsUnfinished, cut_short, line_fault, gathered}
 use Rattle.b1_report.proofs.LineRuns.{IsTail, next_is_place, run_place, run_more, text_more, tail_behind, text_behind, complete, halves, not_nil, cancel}

@@ -10,13 +10,13 @@ use Rattle.b1_model.specs.declared.commands.Command.TheVariants as cmd
 use Rattle.b1_model.specs.declared.records.Call.{Call}
 use Rattle.b1_model.specs.declared.records.PeerCalls.{PeerCalls}
 use Rattle.b1_model.specs.declared.records.Record.{Record}
-use Rattle.b1_words.specs.Commands.{IsCommand}
-use Rattle.b1_words.specs.declared.items.Form.TheVariants.{Report}
-use Rattle.b1_answers.specs.declared.lines.Line.{Line}
-use Rattle.b1_answers.specs.declared.lines.Line.TheVariants as line
-use Rattle.b1_answers.specs.declared.lines.Place.TheVariants as place
-use Rattle.b1_answers.specs.Lines.{line_text, next_place, MayStand, IsCall, call_line, count_line}
-use Rattle.b1_answers.specs.Lines as of_lines
+use Rattle.b1_text_words.specs.Commands.{IsCommand}
+use Rattle.b1_text_words.specs.declared.items.Form.TheVariants.{Report}
+use Rattle.b1_report_lines.specs.declared.lines.Line.{Line}
+use Rattle.b1_report_lines.specs.declared.lines.Line.TheVariants as line
+use Rattle.b1_report_lines.specs.declared.lines.Place.TheVariants as place
+use Rattle.b1_report_lines.specs.Lines.{line_text, next_place, MayStand, IsCall, call_line, count_line}
+use Rattle.b1_report_lines.specs.Lines as of_lines
 use Rattle.b1_report.specs.Parsing.{HasCallFields, HasPeerFields, IsReport}
 use Rattle.b1_report.specs.Report.{calls_text, peer_text, report_text, IsWritten, HasSpelling, AllSpelled}
 use Rattle.b1_report.specs.Runs.{run_text, front_calls, gathered}

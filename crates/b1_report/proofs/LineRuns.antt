@@ -1,14 +1,14 @@
 -- Lines one behind the other: how they go on, end, and are told apart.
 use Rattle.std.proofs.Common.{◌≡◌, ℕ, zero, suc, ◌+◌, ◌-◌, ◌^◌, ◌<◌, List, [], ◌∷◌, ◌++◌, Some, None, refl, sym, ap, subst, ◌∙◌, arith}
 use Rattle.std.proofs.lemmas.List.{append_assoc}
-use Rattle.b1_answers.specs.declared.lines.Line.{Line}
-use Rattle.b1_answers.specs.declared.lines.Line.TheVariants as line
-use Rattle.b1_answers.specs.declared.lines.Place.{Place}
-use Rattle.b1_answers.specs.declared.lines.Place.TheVariants as place
-use Rattle.b1_answers.specs.Lines.{line_text, next_place, MayStand, IsPlace, IsOnlyLine}
-use Rattle.b1_answers.specs.Reading.{split_once}
-use Rattle.b1_answers.proofs.FreeLines.{line_in_line}
-use Rattle.b1_answers.proofs.Splitting.{split_found}
+use Rattle.b1_report_lines.specs.declared.lines.Line.{Line}
+use Rattle.b1_report_lines.specs.declared.lines.Line.TheVariants as line
+use Rattle.b1_report_lines.specs.declared.lines.Place.{Place}
+use Rattle.b1_report_lines.specs.declared.lines.Place.TheVariants as place
+use Rattle.b1_report_lines.specs.Lines.{line_text, next_place, MayStand, IsPlace, IsOnlyLine}
+use Rattle.b1_report_lines.specs.Reading.{split_once}
+use Rattle.b1_report_lines.proofs.FreeLines.{line_in_line}
+use Rattle.b1_report_lines.proofs.Splitting.{split_found}
 use Rattle.b1_report.specs.Runs.{IsRun, run_text}
 
 -- lines that may follow, to the end of a report

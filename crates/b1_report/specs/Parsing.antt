@@ -7,9 +7,9 @@ use Rattle.b1_errs.specs.declared.NotRead.TheVariants.{Bad, Memory}
 use Rattle.b1_model.specs.declared.records.Call.{Call}
 use Rattle.b1_model.specs.declared.records.PeerCalls.{PeerCalls}
 use Rattle.b1_model.specs.declared.records.Record.{Record}
-use Rattle.b1_answers.specs.Answers.{HasFields}
-use Rattle.b1_words.specs.Commands.{IsCommand}
-use Rattle.b1_words.specs.declared.items.Form.TheVariants.{Report}
+use Rattle.b1_report_lines.specs.Answers.{HasFields}
+use Rattle.b1_text_words.specs.Commands.{IsCommand}
+use Rattle.b1_text_words.specs.declared.items.Form.TheVariants.{Report}
 use Rattle.b1_report.specs.Report.{EachSpelled, report_text}
 
 -- the numbers of a call fit the fields that hold them

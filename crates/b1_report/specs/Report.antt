@@ -7,8 +7,8 @@ use Rattle.b1_model.specs.declared.commands.Command.TheVariants as cmd
 use Rattle.b1_model.specs.declared.records.Call.{Call}
 use Rattle.b1_model.specs.declared.records.PeerCalls.{PeerCalls}
 use Rattle.b1_model.specs.declared.records.Record.{Record}
-use Rattle.b1_words.specs.Commands.{command_text}
-pub use Rattle.b1_answers.specs.Answers.{answer_text, IsAnswer}
+use Rattle.b1_text_words.specs.Commands.{command_text}
+pub use Rattle.b1_report_lines.specs.Answers.{answer_text, IsAnswer}
 
 -- the line of a call
 abbrev pub call_text : Call → List ℕ

@@ -5,14 +5,14 @@ use Rattle.b1_errs.specs.declared.NotRead.{NotRead}
 use Rattle.b1_errs.specs.declared.NotRead.TheVariants.{Bad, Memory}
 use Rattle.b1_model.specs.declared.records.Call.{Call}
 use Rattle.b1_model.specs.declared.records.PeerCalls.{PeerCalls}
-use Rattle.b1_answers.specs.declared.lines.Line as lines
-use Rattle.b1_answers.specs.declared.lines.Line.TheVariants as line
-use Rattle.b1_answers.specs.declared.lines.Place.{Place}
-use Rattle.b1_answers.specs.declared.lines.Place.TheVariants as place
-use Rattle.b1_answers.specs.declared.unread.Stop.TheVariants.{Cut}
-use Rattle.b1_answers.specs.declared.unread.Unread.{Unread}
-use Rattle.b1_answers.specs.declared.unread.Unread.TheVariants as unread
-use Rattle.b1_answers.specs.Lines.{line_text, next_place, IsOnlyLine, BeginLine}
+use Rattle.b1_report_lines.specs.declared.lines.Line as lines
+use Rattle.b1_report_lines.specs.declared.lines.Line.TheVariants as line
+use Rattle.b1_report_lines.specs.declared.lines.Place.{Place}
+use Rattle.b1_report_lines.specs.declared.lines.Place.TheVariants as place
+use Rattle.b1_report_lines.specs.declared.unread.Stop.TheVariants.{Cut}
+use Rattle.b1_report_lines.specs.declared.unread.Unread.{Unread}
+use Rattle.b1_report_lines.specs.declared.unread.Unread.TheVariants as unread
+use Rattle.b1_report_lines.specs.Lines.{line_text, next_place, IsOnlyLine, BeginLine}
 use Rattle.b1_report.specs.declared.drafts.Draft.{Draft}
 
 -- lines that lead from one place to another, each of them the only line that its bytes are

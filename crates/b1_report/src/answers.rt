@@ -1,6 +1,6 @@
 ghost use Rattle.std.specs.Prelude.{◌≡◌, ◌++◌, OnOk, string_bytes};
-ghost use Rattle.b1_answers.specs.Answers.{answer_text, receipt_text, places_text, place_text, quantity_text, front_text, gone_text};
-ghost use Rattle.b1_answers.specs.Answers.{reason_text, refused_text, reset_text};
+ghost use Rattle.b1_report_lines.specs.Answers.{answer_text, receipt_text, places_text, place_text, quantity_text, front_text, gone_text};
+ghost use Rattle.b1_report_lines.specs.Answers.{reason_text, refused_text, reset_text};
 
 use crate::numbers::{write_hex, write_key, write_number, write_numbers};
 use b1_model::{Answer, Command, Front, Places, Quantity, Reason, Receipt, Refused};

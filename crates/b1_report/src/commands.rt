@@ -1,5 +1,5 @@
 ghost use Rattle.std.specs.Prelude.{◌≡◌, ◌++◌, OnOk, string_bytes};
-ghost use Rattle.b1_words.specs.Commands.{command_text, send_text};
+ghost use Rattle.b1_text_words.specs.Commands.{command_text, send_text};
 
 use crate::numbers::{write_handle, write_handles, write_hex, write_offset};
 use b1_model::{Command, SendCmd};

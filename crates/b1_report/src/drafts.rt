@@ -1,7 +1,7 @@
 ghost use Rattle.std.specs.Prelude.{◌≡◌, List, [], ◌∷◌, ◌++◌, Some, OnOk, IfOk};
-ghost use Rattle.b1_answers.specs.declared.lines.Line.{Line};
+ghost use Rattle.b1_report_lines.specs.declared.lines.Line.{Line};
 
-use b1_answers::Line;
+use b1_report_lines::Line;
 use b1_model::{Call, Calls, PeerCalls, PeerLists};
 use std::alloc::{AllocError, Global};
 use std::mem;

@@ -1,5 +1,5 @@
 ghost use Rattle.std.specs.Prelude.{◌≡◌, ◌++◌, ◌<◌, OnOk, string_bytes};
-ghost use Rattle.b1_words.specs.Numbers.{hex_digit, hex_text, number_text, handle_text, offset_text, list_text, key_text};
+ghost use Rattle.b1_text_words.specs.Numbers.{hex_digit, hex_text, number_text, handle_text, offset_text, list_text, key_text};
 
 use b1_model::{Key, Nums};
 use std::alloc::AllocError;

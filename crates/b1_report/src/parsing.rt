@@ -1,14 +1,14 @@
 ghost use Rattle.std.specs.Prelude.{◌≡◌, ◌+◌, ◌^◌, ◌<◌, ◌↔◌, [], length, IsTrue, IfOk, IfErr};
 ghost use Rattle.b1_model.specs.declared.records.Record.{Record};
-ghost use Rattle.b1_answers.specs.Lines.{IsPlace, next_place};
+ghost use Rattle.b1_report_lines.specs.Lines.{IsPlace, next_place};
 ghost use Rattle.b1_report.specs.Parsing.{IsReport, TellsReport, WasRead, TellsFault};
 ghost use Rattle.b1_report.specs.Runs.{AreAllLines, TellsUnfinished, CanFollow, cut_short, line_fault, gathered};
 
 use crate::drafts::Draft;
-use b1_answers::{Line, Place, Stop, Unread, read_line};
+use b1_report_lines::{Line, Place, Stop, Unread, read_line};
 use b1_errs::{Cause, NotRead};
 use b1_model::{PeerLists, Record};
-use b1_words::split;
+use b1_text_words::split;
 use std::alloc::{AllocError, Global};
 
 /// Where a report stands behind a line.

@@ -11,7 +11,7 @@ use Rattle.b1_model.specs.Script.{resolved}
 use Rattle.b1_model.specs.MachineStep.{Step, stepped_by, stepped_to, target, aimed, begun_by, opening_state, record_of_state}
 use Rattle.b1_step.specs.Fixed.{IsNumbered}
 use Rattle.b1_step.proofs.Locality.{own_driver}
-use Rattle.b1_shape.specs.Sends.{SendsRight}
+use Rattle.b1_inv.specs.Sends.{SendsRight}
 use Rattle.b1_schedule.specs.Shortage.{Shortage, no_shortage, is_short, shortage_of}
 use Rattle.b1_schedule.specs.Schedule.{beginning, with_step, ending, Stage, Turning, Round, Draining, Finished, Stalled, Playing, round_after, drain_after, driver_after, waiting_peers, turned_by, has_step, round_end, round_at, drain_at, moved, moves, start_of, Comes, IsPlay, IsStall}
 use Rattle.b1_schedule.specs.Played.{PlayedTo}

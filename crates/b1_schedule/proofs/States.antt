@@ -14,7 +14,7 @@ use Rattle.b1_model.specs.MachineTook.{is_await, driver_calls, open_by}
 use Rattle.b1_model.specs.MachineStep.{effect, Step, stepped, record_of_state, peer_records}
 use Rattle.b1_step.specs.Fixed.{IsNumbered}
 use Rattle.b1_step.proofs.Locality.{computed, own_driver, other_driver}
-use Rattle.b1_shape.specs.Sends.{SendsRight, SendShape}
+use Rattle.b1_inv.specs.Sends.{SendsRight, SendShape}
 use Rattle.b1_schedule.specs.Shortage.{Shortage, no_shortage, is_short, shortage_of, is_short_answer}
 use Rattle.b1_schedule.specs.Agreement.{Agrees, AllAgree, is_staging}
 use Rattle.b1_schedule.proofs.Steps.{StagesPlainly, local_back}

@@ -6,7 +6,7 @@ ghost use Rattle.b1_model.specs.MachineParts.{State};
 ghost use Rattle.b1_model.specs.MachineOrder.{no_command_open};
 ghost use Rattle.b1_model.specs.MachineStep.{Step, stepped, record_of_state};
 ghost use Rattle.b1_step.specs.Fixed.{IsNumbered};
-ghost use Rattle.b1_shape.specs.Sends.{SendsRight};
+ghost use Rattle.b1_inv.specs.Sends.{SendsRight};
 ghost use Rattle.b1_schedule.specs.Shortage.{Shortage, is_short, shortage_of, no_shortage};
 ghost use Rattle.b1_schedule.specs.Agreement.{AllAgree};
 

@@ -7,7 +7,7 @@ ghost use Rattle.b1_model.specs.MachineParts.{DriverPart, State};
 ghost use Rattle.b1_model.specs.MachineOrder.{next_command, no_command_open};
 ghost use Rattle.b1_model.specs.MachineStep.{Step, opening_state, record_of_state};
 ghost use Rattle.b1_step.specs.Fixed.{IsNumbered};
-ghost use Rattle.b1_shape.specs.Sends.{SendsRight};
+ghost use Rattle.b1_inv.specs.Sends.{SendsRight};
 ghost use Rattle.b1_schedule.specs.Shortage.{shortage_of};
 ghost use Rattle.b1_schedule.specs.Schedule.{beginning, drain_after, ending, has_step, round_after, round_end, waiting_peers, IsPlay, IsStall};
 ghost use Rattle.b1_schedule.specs.Schedule.Stage.{Draining, Finished, Round, Stalled, Turning};

@@ -1,6 +1,6 @@
 -- What `play` writes of a script.
 use Rattle.std.specs.Prelude.{◌≡◌, ℕ, List, [], ◌++◌}
-use Rattle.b1_follows.specs.Following.{AllInPlace}
+use Rattle.b1_play_commands.specs.Following.{AllInPlace}
 use Rattle.b1_model.specs.declared.records.Record.{Record}
 use Rattle.b1_model.specs.Legal.{Legal, Whole}
 use Rattle.b1_model.specs.MachineOrder.{DrainedOf, Stuck}

@@ -5,7 +5,7 @@ use Rattle.b1_errs.specs.declared.Cause.{Cause}
 use Rattle.b1_errs.specs.Words as causes
 use Rattle.b1_judge.specs.declared.verdict.Clause.{Clause}
 use Rattle.b1_judge.specs.Words as clauses
-use Rattle.b1_words.specs.Numbers.{list_text}
+use Rattle.b1_text_words.specs.Numbers.{list_text}
 
 -- the line for words that aren't known
 abbrev pub usage_line : List ℕ

@@ -2,7 +2,7 @@
 ghost use Rattle.std.specs.Prelude.{◌≡◌, ◌++◌, IfOk, OnOk, string_bytes};
 ghost use Rattle.std.specs.Fmt.{decimal};
 ghost use Rattle.b1_report.specs.Report.{report_text};
-ghost use Rattle.b1_words.specs.Numbers.{list_text};
+ghost use Rattle.b1_text_words.specs.Numbers.{list_text};
 ghost use Rattle.b1_shell.specs.Texts as texts;
 
 use b1_model::{Nums32, Record};

@@ -41,7 +41,7 @@ Changes act.BeginDestroy x y = y ≡ record x { queue = y.queue; nodes = y.nodes
 Changes (act.Visit peer) x y = y ≡ record x { queue = y.queue; handles = y.handles }
 Changes act.StampDestroy x y = y ≡ record x { clock = y.clock; nodes = y.nodes; late = y.late }
 Changes act.Flush x y = y ≡ record x { limits = y.limits; epoch = y.epoch; slices = y.slices; queue = y.queue; handles = y.handles; dead = y.dead }
-Changes act.Local x y = y ≡ record x { slices = y.slices }
+Changes act.Local x y = y ≡ record x { limits = y.limits; slices = y.slices }
 
 -- an event that a driver may do at another peer than its own
 abbrev pub may_be_elsewhere : Action → Bool

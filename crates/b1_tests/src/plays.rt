@@ -2,7 +2,7 @@ use crate::openings::two_peers;
 use b1_model::{
     Answer, Bytes, Command, CommandLists, Commands, Nums, PeerCalls, Record, SendCmd, valid_opening,
 };
-use b1_player::{Played, play};
+use b1_play::{Played, play};
 use b1_script::{Script, Turns};
 use std::alloc::{AllocError, Global};
 use std::test::Fail;

@@ -1,8 +1,8 @@
 -- Bytes that begin the text of a value: behind a word, and cut at a space.
 use Rattle.std.proofs.Common.{◌≡◌, ◌≢◌, ◌↔◌, ℕ, Bool, false, List, [], ◌∷◌, ◌++◌, Result, Ok, Err, inl, inr, ◌⊎◌, IsTrue, refl, sym, ap, ◌∙◌, append_assoc}
 use Rattle.std.specs.Prelude.{IfOk}
-use Rattle.b1_words.specs.Words.{Spells, Begins, IsFree}
-use Rattle.b1_words.proofs.Languages.{joined_first}
+use Rattle.b1_text_words.specs.Words.{Spells, Begins, IsFree}
+use Rattle.b1_text_words.proofs.Languages.{joined_first}
 
 -- ---- prefixes
 

@@ -2,7 +2,7 @@
 use Rattle.std.proofs.Common.{◌≡◌, ℕ, ◌+◌, ◌<◌, ◌≤◌, List, [], ◌∷◌, ◌++◌, length, ◌⊎◌, inl, inr, refl, sym, ap, subst, ◌∙◌, append_assoc, arith}
 use Rattle.std.proofs.lemmas.Bool.{cases_lt}
 use Rattle.std.proofs.lemmas.List.{append-nil, length-append}
-use Rattle.b1_words.proofs.Languages.{stops_before, not_free}
+use Rattle.b1_text_words.proofs.Languages.{stops_before, not_free}
 use Rattle.b1_text.specs.Accepted.{CanGoOn, IsLine, AreLines, BreaksAt, line, last_line, cut}
 use Rattle.b1_text.proofs.Follow.{shorter}
 

@@ -5,12 +5,12 @@ use Rattle.b1_model.specs.declared.commands.Command.TheVariants.{Disconnect, Que
 use Rattle.b1_model.specs.declared.commands.SendCmd.{SendCmd}
 use Rattle.b1_model.specs.declared.naming.Limits.{Limits}
 use Rattle.b1_records.specs.Spelling.{Is64, AreLimits}
-use Rattle.b1_words.specs.declared.items.Form.TheVariants.{Script as in_script}
-use Rattle.b1_words.specs.declared.items.Item.TheVariants.{Handle}
-use Rattle.b1_words.specs.Commands.{command_text_in, limits_text}
-use Rattle.b1_words.specs.Items.{AreItems}
-use Rattle.b1_words.specs.Numbers.{script_handle_text, script_offset_text, list_text}
-use Rattle.b1_words.specs.Words.{Spells, Begins}
+use Rattle.b1_text_words.specs.declared.items.Form.TheVariants.{Script as in_script}
+use Rattle.b1_text_words.specs.declared.items.Item.TheVariants.{Handle}
+use Rattle.b1_text_words.specs.Commands.{command_text_in, limits_text}
+use Rattle.b1_text_words.specs.Items.{AreItems}
+use Rattle.b1_text_words.specs.Numbers.{script_handle_text, script_offset_text, list_text}
+use Rattle.b1_text_words.specs.Words.{Spells, Begins}
 use Rattle.b1_text.specs.Drafts.{IsCarried, record_len}
 use Rattle.b1_text.specs.Nexts.{HasRoom, HasRoomAs, is_plain, is_reference, is_reset, is_send, IsLoad, load_text}
 use Rattle.b1_text.proofs.Lengths.{destroy_len, send_len}

@@ -7,9 +7,9 @@ use Rattle.b1_model.specs.declared.naming.PeerSpec.{PeerSpec}
 use Rattle.b1_model.specs.declared.naming.Wire.{Wire}
 use Rattle.b1_records.specs.Spelling.{Is32, Is64, AreLimits}
 use Rattle.b1_script.specs.Spelling.{IsSpec}
-use Rattle.b1_words.specs.Numbers.{script_handle_text}
-use Rattle.b1_words.specs.Words.{Reads, IsFree}
-use Rattle.b1_words.proofs.Languages.{joined_first, free_append}
+use Rattle.b1_text_words.specs.Numbers.{script_handle_text}
+use Rattle.b1_text_words.specs.Words.{Reads, IsFree}
+use Rattle.b1_text_words.proofs.Languages.{joined_first, free_append}
 use Rattle.b1_text.specs.Bodies.{two_text, AreTwo, limits_body, pool_body, IsPoolWithLimits, peer_body, end_body, IsEnd, wire_body}
 use Rattle.b1_text.specs.Drafts.{HasWireFields}
 

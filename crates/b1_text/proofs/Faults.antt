@@ -11,7 +11,7 @@ use Rattle.b1_text.specs.declared.statement.Statement.{Statement}
 use Rattle.b1_text.specs.Texts.{statement_text, line_text}
 use Rattle.b1_text.specs.Accepted.{most_text, IsAccepted, CanGoOn, IsLine, AreLines, IsFault, line, last_line, cut}
 use Rattle.b1_text.specs.Drafts.{Fits, step, IsNext}
-use Rattle.b1_words.specs.Words.{Reads, Begins}
+use Rattle.b1_text_words.specs.Words.{Reads, Begins}
 use Rattle.b1_text.specs.Progress.{Makes, Leads, LeadsTo, IsFirstLine, Answers}
 use Rattle.b1_text.proofs.Fitting.{all_at}
 use Rattle.b1_text.proofs.Follow.{are_lines, good, goes_on, wrong, wrong_end, makes_more, whole_of, text_of}

@@ -8,12 +8,12 @@ use Rattle.b1_model.specs.declared.naming.PeerSpec.{PeerSpec}
 use Rattle.b1_model.specs.declared.naming.Wire.{Wire}
 use Rattle.b1_records.specs.Spelling.{Is32, Is64}
 use Rattle.b1_script.specs.Spelling.{most_script, IsSpec}
-use Rattle.b1_words.specs.declared.items.Form.TheVariants.{Script as in_script}
-use Rattle.b1_words.specs.declared.items.Item.TheVariants.{UpTo}
-use Rattle.b1_words.specs.Commands.{command_text_in, IsCommand}
-use Rattle.b1_words.specs.Items.{item_text, AreItems}
-use Rattle.b1_words.specs.Numbers.{list_text, script_handle_text}
-use Rattle.b1_words.specs.Words.{Reads}
+use Rattle.b1_text_words.specs.declared.items.Form.TheVariants.{Script as in_script}
+use Rattle.b1_text_words.specs.declared.items.Item.TheVariants.{UpTo}
+use Rattle.b1_text_words.specs.Commands.{command_text_in, IsCommand}
+use Rattle.b1_text_words.specs.Items.{item_text, AreItems}
+use Rattle.b1_text_words.specs.Numbers.{list_text, script_handle_text}
+use Rattle.b1_text_words.specs.Words.{Reads}
 use Rattle.b1_text.specs.declared.statement.Statement.{Statement}
 use Rattle.b1_text.specs.declared.statement.Statement.TheVariants as says
 use Rattle.b1_text.specs.Texts.{statement_text, peer_text, wire_text}

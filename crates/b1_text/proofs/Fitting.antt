@@ -13,9 +13,9 @@ use Rattle.b1_model.specs.Opening.{after_wire, AreWired}
 use Rattle.b1_records.specs.Spelling.{Is32, Is64, IsWithin, HasNumbers, IsSend}
 use Rattle.b1_script.specs.declared.script.Script.{Script}
 use Rattle.b1_script.specs.Spelling.{IsSpec, IsWire}
-use Rattle.b1_words.specs.declared.items.Form.TheVariants.{Script as in_script}
-use Rattle.b1_words.specs.Commands.{command_text_in}
-use Rattle.b1_words.specs.Numbers.{script_handle_text, script_offset_text, list_text, hex_pair, hex_text}
+use Rattle.b1_text_words.specs.declared.items.Form.TheVariants.{Script as in_script}
+use Rattle.b1_text_words.specs.Commands.{command_text_in}
+use Rattle.b1_text_words.specs.Numbers.{script_handle_text, script_offset_text, list_text, hex_pair, hex_text}
 use Rattle.b1_text.specs.declared.statement.Statement.{Statement}
 use Rattle.b1_text.specs.declared.statement.Statement.TheVariants as says
 use Rattle.b1_text.specs.Texts.{statement_text, list_statements, lists_statements, statements}

@@ -10,7 +10,7 @@ use Rattle.b1_text.specs.declared.statement.Statement.{Statement}
 use Rattle.b1_text.specs.Texts.{statement_text, line_text, statements, script_text}
 use Rattle.b1_text.specs.Accepted.{IsWritable, IsText, CanGoOn, IsLine, AreLines}
 use Rattle.b1_text.specs.Drafts.{Fits, step, run, IsNext}
-use Rattle.b1_words.specs.Words.{Begins}
+use Rattle.b1_text_words.specs.Words.{Begins}
 use Rattle.b1_text.specs.Progress.{Makes, Leads}
 use Rattle.b1_text.proofs.Runs.{run-append, run-none, whole_run}
 use Rattle.b1_text.proofs.Made.{IsMade, Completion, made_step, made_all, complete}

@@ -11,13 +11,13 @@ use Rattle.b1_model.specs.declared.commands.SendCmd.{SendCmd}
 use Rattle.b1_records.specs.Spelling.{Is32, Is64, IsByte, AreLimits}
 use Rattle.b1_script.specs.declared.script.Script.{Script}
 use Rattle.b1_script.specs.Spelling.{IsSpec}
-use Rattle.b1_words.specs.declared.items.Form.TheVariants.{Script as in_script}
-use Rattle.b1_words.specs.Commands.{command_text_in}
-use Rattle.b1_words.specs.Numbers.{script_handle_text, script_offset_text, list_text, hex_digit, hex_text}
-use Rattle.b1_words.specs.Digits.{bytes_of}
-use Rattle.b1_words.specs.Words.{IsFree}
-use Rattle.b1_words.proofs.Languages.{joined_first, free_append, not_free}
-use Rattle.b1_words.proofs.Hex.{spelled_back}
+use Rattle.b1_text_words.specs.declared.items.Form.TheVariants.{Script as in_script}
+use Rattle.b1_text_words.specs.Commands.{command_text_in}
+use Rattle.b1_text_words.specs.Numbers.{script_handle_text, script_offset_text, list_text, hex_digit, hex_text}
+use Rattle.b1_text_words.specs.Digits.{bytes_of}
+use Rattle.b1_text_words.specs.Words.{IsFree}
+use Rattle.b1_text_words.proofs.Languages.{joined_first, free_append, not_free}
+use Rattle.b1_text_words.proofs.Hex.{spelled_back}
 use Rattle.b1_text.specs.declared.draft.Draft.TheVariants.{Empty, Whole}
 use Rattle.b1_text.specs.declared.statement.Statement.{Statement}
 use Rattle.b1_text.specs.declared.statement.Statement.TheVariants as says

@@ -2,12 +2,12 @@
 use Rattle.std.proofs.Common.{◌≡◌, ◌↔◌, ℕ, ◌-◌, ◌*◌, ◌≤◌, Bool, false, List, [], ◌∷◌, ◌++◌, length, Option, Some, None, codes, IsTrue, refl, sym, subst, ◌∙◌, arith}
 use Rattle.std.specs.List.{flat_map, AllByRecursion}
 use Rattle.b1_records.specs.Spelling.{Is64, rounded, most_numbers, most_bytes}
-use Rattle.b1_words.specs.declared.items.Form.TheVariants.{Script as in_script}
-use Rattle.b1_words.specs.declared.items.Item.TheVariants.{Handle}
-use Rattle.b1_words.specs.Items.{AreItems, AreBytes}
-use Rattle.b1_words.specs.Numbers.{script_handle_text, list_text, hex_text}
-use Rattle.b1_words.specs.Words.{Spells, Reads, Begins, IsFree}
-use Rattle.b1_words.proofs.Languages.{free_append}
+use Rattle.b1_text_words.specs.declared.items.Form.TheVariants.{Script as in_script}
+use Rattle.b1_text_words.specs.declared.items.Item.TheVariants.{Handle}
+use Rattle.b1_text_words.specs.Items.{AreItems, AreBytes}
+use Rattle.b1_text_words.specs.Numbers.{script_handle_text, list_text, hex_text}
+use Rattle.b1_text_words.specs.Words.{Spells, Reads, Begins, IsFree}
+use Rattle.b1_text_words.proofs.Languages.{free_append}
 use Rattle.b1_text.specs.Nexts.{AreHandles, IsPayload, IsCargo, IsLoad, data_text, cargo_text, with_text, load_text}
 use Rattle.b1_text.proofs.Cuts.{handle_free}
 use Rattle.b1_text.proofs.Begins.{Halves, halves_none, halves_some, no_halves, never, same_test}

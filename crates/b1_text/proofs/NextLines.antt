@@ -12,10 +12,10 @@ use Rattle.b1_model.specs.Opening.{from_owner, with_held, after_wire, is_same}
 use Rattle.b1_records.specs.Spelling.{Is32, Is64}
 use Rattle.b1_script.specs.Spelling.{most_script, IsSpec}
 use Rattle.b1_script.specs.Reading.{is_first_clock}
-use Rattle.b1_words.specs.declared.items.Item.TheVariants.{UpTo}
-use Rattle.b1_words.specs.Items.{AreItems}
-use Rattle.b1_words.specs.Numbers.{list_text}
-use Rattle.b1_words.specs.Words.{Spells, Begins}
+use Rattle.b1_text_words.specs.declared.items.Item.TheVariants.{UpTo}
+use Rattle.b1_text_words.specs.Items.{AreItems}
+use Rattle.b1_text_words.specs.Numbers.{list_text}
+use Rattle.b1_text_words.specs.Words.{Spells, Begins}
 use Rattle.b1_text.specs.declared.draft.Draft.{Draft}
 use Rattle.b1_text.specs.declared.draft.Draft.TheVariants.{Empty, Named, Opened, Listing}
 use Rattle.b1_text.specs.declared.statement.Statement.{Statement}

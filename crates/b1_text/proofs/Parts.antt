@@ -1,10 +1,10 @@
 -- A word and an item, or a list of items.
 use Rattle.std.proofs.Common.{◌≡◌, ℕ, ◌-◌, ◌%◌, [], ap, ◌∙◌, arith}
 use Rattle.std.proofs.Math.Nat.{zero-mod}
-use Rattle.b1_words.specs.declared.among.Numbers.{Numbers}
-use Rattle.b1_words.specs.declared.items.Item.{Item}
-use Rattle.b1_words.specs.declared.items.Item.TheVariants.{UpTo, Among, Known, Handle, Offset}
-use Rattle.b1_words.specs.Items.{IsAmong, IsItem, AreItems}
+use Rattle.b1_text_words.specs.declared.among.Numbers.{Numbers}
+use Rattle.b1_text_words.specs.declared.items.Item.{Item}
+use Rattle.b1_text_words.specs.declared.items.Item.TheVariants.{UpTo, Among, Known, Handle, Offset}
+use Rattle.b1_text_words.specs.Items.{IsAmong, IsItem, AreItems}
 
 first_among : (s : Numbers) → IsAmong s s.least
 first_among s =

@@ -2,9 +2,9 @@
 use Rattle.std.proofs.Common.{◌≡◌, ℕ, Bool, true, false, List, ◌∷◌, ◌++◌, codes, ◌∙◌, append_assoc}
 use Rattle.b1_model.specs.declared.commands.Command.TheVariants.{Send}
 use Rattle.b1_model.specs.declared.commands.SendCmd.{SendCmd}
-use Rattle.b1_words.specs.declared.items.Form.TheVariants.{Script as in_script}
-use Rattle.b1_words.specs.Commands.{command_text_in}
-use Rattle.b1_words.specs.Numbers.{script_handle_text, list_text, hex_text}
+use Rattle.b1_text_words.specs.declared.items.Form.TheVariants.{Script as in_script}
+use Rattle.b1_text_words.specs.Commands.{command_text_in}
+use Rattle.b1_text_words.specs.Numbers.{script_handle_text, list_text, hex_text}
 use Rattle.b1_text.specs.Nexts.{load_text}
 
 -- the first words of a SEND

@@ -4,8 +4,8 @@ use Rattle.std.specs.Fmt.{decimal}
 use Rattle.b1_model.specs.declared.naming.PeerSpec.{PeerSpec}
 use Rattle.b1_model.specs.Opening.{IsPool}
 use Rattle.b1_records.specs.Spelling.{AreLimits}
-use Rattle.b1_words.specs.Commands.{limits_text}
-use Rattle.b1_words.specs.Words.{Spells, Begins, Joined}
+use Rattle.b1_text_words.specs.Commands.{limits_text}
+use Rattle.b1_text_words.specs.Words.{Spells, Begins, Joined}
 use Rattle.b1_text.specs.Texts.{peer_text}
 use Rattle.b1_text.specs.Bodies.{peer_body}
 use Rattle.b1_text.specs.Nexts.{HasSpec}

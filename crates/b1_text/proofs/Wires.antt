@@ -10,8 +10,8 @@ use Rattle.std.proofs.lemmas.Fmt.{decimal_step}
 use Rattle.b1_model.specs.declared.naming.Wire.{Wire}
 use Rattle.b1_model.specs.Opening.{held_by, from_owner, CanWire}
 use Rattle.b1_records.specs.Spelling.{Is32, Is64}
-use Rattle.b1_words.specs.Numbers.{script_handle_text}
-use Rattle.b1_words.specs.Words.{Spells, Reads, Begins, IsFree}
+use Rattle.b1_text_words.specs.Numbers.{script_handle_text}
+use Rattle.b1_text_words.specs.Words.{Spells, Reads, Begins, IsFree}
 use Rattle.b1_text.specs.Texts.{wire_text}
 use Rattle.b1_text.specs.Bodies.{end_body, IsEnd, wire_body}
 use Rattle.b1_text.specs.Drafts.{HasWireFields, can_wire}

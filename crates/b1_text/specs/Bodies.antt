@@ -5,7 +5,7 @@ use Rattle.b1_model.specs.declared.naming.Limits.{Limits}
 use Rattle.b1_model.specs.declared.naming.PeerSpec.{PeerSpec}
 use Rattle.b1_model.specs.declared.naming.Wire.{Wire}
 use Rattle.b1_records.specs.Spelling.{Is32, Is64, AreLimits}
-use Rattle.b1_words.specs.Numbers.{script_handle_text}
+use Rattle.b1_text_words.specs.Numbers.{script_handle_text}
 
 abbrev pub space : ℕ
 space = 32

@@ -8,7 +8,7 @@ use Rattle.b1_model.specs.declared.naming.Wire.{Wire}
 use Rattle.b1_model.specs.Opening.{HasPool}
 use Rattle.b1_records.specs.Spelling.{Is64, IsByte, rounded, most_numbers, most_bytes}
 use Rattle.b1_script.specs.Spelling.{IsSpec}
-use Rattle.b1_words.specs.Numbers.{script_handle_text, list_text, hex_text}
+use Rattle.b1_text_words.specs.Numbers.{script_handle_text, list_text, hex_text}
 use Rattle.b1_text.specs.declared.draft.Draft.{Draft}
 use Rattle.b1_text.specs.declared.draft.Draft.TheVariants.{Empty}
 use Rattle.b1_text.specs.declared.statement.Statement.{Statement}

@@ -8,9 +8,9 @@ use Rattle.b1_model.specs.declared.naming.Wire.{Wire}
 use Rattle.b1_script.specs.declared.script.Script.{Script}
 use Rattle.b1_text.specs.declared.statement.Statement.{Statement}
 use Rattle.b1_text.specs.declared.statement.Statement.TheVariants as says
-use Rattle.b1_words.specs.declared.items.Form.TheVariants.{Script as in_script}
-use Rattle.b1_words.specs.Commands.{command_text_in}
-use Rattle.b1_words.specs.Numbers.{script_handle_text, list_text}
+use Rattle.b1_text_words.specs.declared.items.Form.TheVariants.{Script as in_script}
+use Rattle.b1_text_words.specs.Commands.{command_text_in}
+use Rattle.b1_text_words.specs.Numbers.{script_handle_text, list_text}
 
 -- a peer: user, pool and limits
 abbrev pub peer_text : PeerSpec → List ℕ

@@ -9,7 +9,7 @@ use crate::draft::Draft;
 use crate::lines::read_line;
 use b1_errs::{Cause, NotRead};
 use b1_script::Script;
-use b1_words::split;
+use b1_text_words::split;
 use std::alloc::{AllocError, Global};
 
 /// How many bytes a text has at most.

@@ -1,15 +1,15 @@
 ghost use Rattle.std.specs.Prelude.{◌≤◌, ◌*◌, ◌++◌, ◌↔◌, ℕ, IsTrue, IfOk, codes};
 ghost use Rattle.b1_records.specs.Spelling.{AreLimits, most_numbers, most_bytes, rounded};
-ghost use Rattle.b1_words.specs.declared.items.Form.TheVariants.{Script};
-ghost use Rattle.b1_words.specs.Commands.{command_text_in, limits_text};
-ghost use Rattle.b1_words.specs.Words.{Spells, Begins};
+ghost use Rattle.b1_text_words.specs.declared.items.Form.TheVariants.{Script};
+ghost use Rattle.b1_text_words.specs.Commands.{command_text_in, limits_text};
+ghost use Rattle.b1_text_words.specs.Words.{Spells, Begins};
 ghost use Rattle.b1_text.specs.Drafts.{IsCarried, has_room, record_len};
 ghost use Rattle.b1_text.specs.Nexts.{Passes, HasRoom, HasRoomAs, is_plain, is_reference, is_reset, is_send, IsPayload, IsCargo, IsLoad, data_text, cargo_text, with_text, load_text};
 
 use crate::begin_parts::{begins_one, begins_several};
 use crate::draft::MOST_SCRIPT;
 use crate::fields::behind;
-use b1_words::{
+use b1_text_words::{
     Form, Item, Kind, begins_bytes, begins_line, begins_list, begins_text, read_list, split,
 };
 use std::alloc::{AllocError, Global};

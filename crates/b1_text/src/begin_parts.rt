@@ -1,11 +1,11 @@
 ghost use Rattle.std.specs.Prelude.{◌≡◌, ◌++◌, ◌↔◌, IsTrue};
 ghost use Rattle.std.specs.Fmt.{decimal};
-ghost use Rattle.b1_words.specs.Items.{item_text, IsItem, AreItems};
-ghost use Rattle.b1_words.specs.Numbers.{list_text};
-ghost use Rattle.b1_words.specs.Words.{Spells, Begins};
+ghost use Rattle.b1_text_words.specs.Items.{item_text, IsItem, AreItems};
+ghost use Rattle.b1_text_words.specs.Numbers.{list_text};
+ghost use Rattle.b1_text_words.specs.Words.{Spells, Begins};
 
 use crate::fields::behind;
-use b1_words::{Item, Numbers, begins_item, begins_list, begins_text};
+use b1_text_words::{Item, Numbers, begins_item, begins_list, begins_text};
 
 /// Whether a text of this word and an item begins with these bytes.
 pub fn begins_one(word: &str, item: Item, line: &[u8]) -> bool

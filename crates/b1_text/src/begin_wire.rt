@@ -1,7 +1,7 @@
 ghost use Rattle.std.specs.Prelude.{◌≡◌, ◌&&◌, ◌<◌, ◌≤◌, ◌++◌, ◌↔◌, IsTrue, length};
 ghost use Rattle.std.specs.Fmt.{decimal};
 ghost use Rattle.b1_records.specs.Spelling.{Is32};
-ghost use Rattle.b1_words.specs.Words.{Spells, Begins};
+ghost use Rattle.b1_text_words.specs.Words.{Spells, Begins};
 ghost use Rattle.b1_text.specs.Texts.{wire_text};
 ghost use Rattle.b1_text.specs.Bodies.{end_body, IsEnd, wire_body};
 ghost use Rattle.b1_text.specs.Drafts.{HasWireFields, can_wire, has_room, wire_len};
@@ -11,7 +11,7 @@ use crate::begin_parts::begins_decimal;
 use crate::draft::{WIRE_LEN, can_wire, has_room};
 use crate::fields::{behind, read_handle, read_u32};
 use b1_model::{Held, Opening, Wire};
-use b1_words::{Item, Numbers, begins_item, begins_text, split};
+use b1_text_words::{Item, Numbers, begins_item, begins_text, split};
 
 pub fn begins_next_wire(opening: &Opening, held: &Held, len: usize, line: &[u8]) -> bool
     requires peers { length opening.now.peers ≤ 64 }

@@ -3,8 +3,8 @@ ghost use Rattle.std.specs.Fmt.{decimal};
 ghost use Rattle.b1_records.specs.Spelling.{Is32, Is64};
 ghost use Rattle.b1_script.specs.Spelling.{IsSpec};
 ghost use Rattle.b1_script.specs.Reading.{is_first_clock};
-ghost use Rattle.b1_words.specs.Numbers.{list_text};
-ghost use Rattle.b1_words.specs.Words.{Spells, Begins};
+ghost use Rattle.b1_text_words.specs.Numbers.{list_text};
+ghost use Rattle.b1_text_words.specs.Words.{Spells, Begins};
 ghost use Rattle.b1_text.specs.declared.draft.Draft.TheVariants.{Opened, Listing};
 ghost use Rattle.b1_text.specs.Texts.{peer_text};
 ghost use Rattle.b1_text.specs.Drafts.{IsNext, AreTurns, can_peer, can_turn, has_room, peer_len, turns_len};
@@ -15,7 +15,7 @@ use crate::begin_parts::{begins_number, begins_one, begins_several};
 use crate::begin_wire::begins_next_wire;
 use crate::draft::{Draft, MOST_PEERS, MOST_SCRIPT, has_room, peer_len};
 use b1_model::{CommandLists, Commands, Held, Opening};
-use b1_words::{Item, Kind, Numbers, begins_line, begins_text};
+use b1_text_words::{Item, Kind, Numbers, begins_line, begins_text};
 use std::alloc::{AllocError, Global};
 
 /// Whether a line that was cut off can become a line with which a script goes on. An error is want of memory.

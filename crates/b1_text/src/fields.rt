@@ -2,13 +2,13 @@ ghost use Rattle.std.specs.Prelude.{◌≡◌, ◌≢◌, ◌++◌, ℕ, List, M
 ghost use Rattle.std.specs.Fmt.{decimal};
 ghost use Rattle.b1_records.specs.Spelling.{Is32, Is64, AreLimits};
 ghost use Rattle.b1_script.specs.Spelling.{IsSpec};
-ghost use Rattle.b1_words.specs.Numbers.{script_handle_text};
-ghost use Rattle.b1_words.specs.Words.{Reads};
+ghost use Rattle.b1_text_words.specs.Numbers.{script_handle_text};
+ghost use Rattle.b1_text_words.specs.Words.{Reads};
 ghost use Rattle.b1_text.specs.Bodies.{two_text, AreTwo, limits_body, pool_body, IsPoolWithLimits, peer_body, end_body, IsEnd, wire_body};
 ghost use Rattle.b1_text.specs.Drafts.{HasWireFields};
 
 use b1_model::{Limits, PeerSpec, Wire};
-use b1_words::{Form, Item, read_item, split};
+use b1_text_words::{Form, Item, read_item, split};
 
 /// What stands in a line behind these bytes; `None` where it doesn't begin with them.
 pub fn behind<'a>(word: &str, line: &'a [u8]) -> Option<&'a [u8]>

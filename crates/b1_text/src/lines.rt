@@ -1,7 +1,7 @@
 ghost use Rattle.std.specs.Prelude.{◌≡◌, ◌++◌, IfOk, codes};
 ghost use Rattle.std.specs.List.{AllByRecursion};
 ghost use Rattle.b1_records.specs.Spelling.{Is32};
-ghost use Rattle.b1_words.specs.Words.{Reads};
+ghost use Rattle.b1_text_words.specs.Words.{Reads};
 ghost use Rattle.b1_text.specs.Texts.{statement_text};
 ghost use Rattle.b1_text.specs.Drafts.{Fits};
 
@@ -9,7 +9,7 @@ use crate::draft::MOST_SCRIPT;
 use crate::fields::{behind, read_peer, read_u32, read_u64, read_wire};
 use crate::statement::Statement;
 use b1_script::Turns;
-use b1_words::{Form, Item, is_text, read_command, read_list};
+use b1_text_words::{Form, Item, is_text, read_command, read_list};
 use std::alloc::{AllocError, Global};
 
 /// What a line says, without its line feed; `None` where it is no statement's text. An error is want of memory.

@@ -1,8 +1,8 @@
 ghost use Rattle.std.specs.Prelude.{◌≡◌, ◌++◌, ◌<◌, OnOk, string_bytes};
 ghost use Rattle.std.specs.Fmt.{decimal};
-ghost use Rattle.b1_words.specs.declared.items.Form.TheVariants.{Script};
-ghost use Rattle.b1_words.specs.Commands.{command_text_in, send_text_in};
-ghost use Rattle.b1_words.specs.Numbers.{hex_digit, hex_text, script_handle_text, script_offset_text, list_text};
+ghost use Rattle.b1_text_words.specs.declared.items.Form.TheVariants.{Script};
+ghost use Rattle.b1_text_words.specs.Commands.{command_text_in, send_text_in};
+ghost use Rattle.b1_text_words.specs.Numbers.{hex_digit, hex_text, script_handle_text, script_offset_text, list_text};
 
 use b1_model::{Command, Nums, SendCmd};
 use std::alloc::AllocError;

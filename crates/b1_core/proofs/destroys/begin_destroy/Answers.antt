@@ -3,7 +3,7 @@ use Rattle.b1_model.specs.declared.events.Action.TheVariants as act
 use Rattle.b1_model.specs.declared.events.Outcome.TheVariants as out
 use Rattle.b1_model.specs.MachineTook.{took}
 use Rattle.b1_model.specs.MachineEvents.{begin_refusal, begin_serials, destroy_by}
-use Rattle.b1_parts.specs.Needs.{StagesAnew}
+use Rattle.b1_inv_peer.specs.Needs.{StagesAnew}
 use Rattle.b1_core.specs.Events.{open_in}
 use Rattle.b1_core.proofs.Does.{does}
 use Rattle.b1_core.proofs.destroys.begin_destroy.Goals as goal

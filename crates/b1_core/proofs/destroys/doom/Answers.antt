@@ -1,5 +1,5 @@
 use Rattle.std.proofs.Common.{◌∙◌, subst, length}
-use Rattle.b1_parts.specs.Needs.{StagesAnew}
+use Rattle.b1_inv_peer.specs.Needs.{StagesAnew}
 use Rattle.b1_core.specs.Events.{open_in}
 use Rattle.b1_core.proofs.Does.{some_numbers, no_numbers, some_event, no_event}
 use Rattle.b1_core.proofs.destroys.doom.Goals as goal

@@ -4,7 +4,7 @@ use Rattle.b1_model.specs.declared.events.Outcome.TheVariants as out
 use Rattle.b1_model.specs.MachineDestroy.{visit_answer, visited}
 use Rattle.b1_model.specs.MachineEvents.{doomed_of}
 use Rattle.b1_core.specs.Events.{open_in}
-use Rattle.b1_parts.specs.Needs.{VisitsAnew}
+use Rattle.b1_inv_peer.specs.Needs.{VisitsAnew}
 use Rattle.b1_core.proofs.Does.{does, pair_is, phase_in}
 use Rattle.b1_core.proofs.destroys.visit.Goals as goal
 

@@ -1,6 +1,6 @@
 use Rattle.std.proofs.Common.{◌≡◌, ◌+◌, ◌≤◌, length}
 use Rattle.b1_model.specs.MachineDestroy.{queued_items}
-use Rattle.b1_parts.specs.PeerOk.{count, is_message}
+use Rattle.b1_inv_peer.specs.PeerOk.{count, is_message}
 use Rattle.b1_peer.specs.Flush.{FewCarried}
 use Rattle.b1_peer.proofs.flush.empty_queue.Given as goal
 

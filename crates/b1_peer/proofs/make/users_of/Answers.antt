@@ -1,6 +1,6 @@
 use Rattle.std.proofs.Common.{◌≡◌, ◌++◌, ◌∷◌, ◌-◌, List, ℕ, get_or, take, drop, length, map, sym, ◌∙◌, ap}
 use Rattle.b1_model.specs.declared.naming.PeerSpec.{PeerSpec}
-use Rattle.b1_carry.proofs.Left.{peeled}
+use Rattle.b1_peer_carried.proofs.Left.{peeled}
 use Rattle.b1_peer.proofs.KeptMake.{no_spec, pushed}
 use Rattle.b1_peer.proofs.make.users_of.Goals as goal
 

@@ -1,5 +1,5 @@
 use Rattle.std.proofs.Common.{◌≡◌, List, ℕ, length, sym, ◌∙◌, ap, arith, rules}
-use Rattle.b1_store.specs.Content.{padded_len}
+use Rattle.b1_peer_pool.specs.Content.{padded_len}
 use Rattle.b1_peer.proofs.KeptReceive.{numbers_fit, has_arrived, delivered}
 use Rattle.b1_peer.proofs.receive.receive.Goals as goal
 

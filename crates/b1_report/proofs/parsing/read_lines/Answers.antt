@@ -1,6 +1,6 @@
 use Rattle.std.proofs.Common.{refl, arith, ◌^◌, ◌<◌}
-use Rattle.b1_answers.specs.declared.lines.Place.TheVariants as place
-use Rattle.b1_answers.proofs.Leaves.{free_from}
+use Rattle.b1_report_lines.specs.declared.lines.Place.TheVariants as place
+use Rattle.b1_report_lines.proofs.Leaves.{free_from}
 use Rattle.b1_report.proofs.Faults.{unfinished_line, refused_line, one_more}
 use Rattle.b1_report.proofs.LineRuns.{run_place}
 use Rattle.b1_report.proofs.parsing.read_lines.Goals as goal

@@ -1,5 +1,5 @@
 use Rattle.std.proofs.Common.{refl, sym, ap, ◌∙◌, inr}
-use Rattle.b1_answers.specs.declared.unread.Unread.TheVariants.{Stopped}
+use Rattle.b1_report_lines.specs.declared.unread.Unread.TheVariants.{Stopped}
 use Rattle.b1_report.proofs.Faults.{cut_begins}
 use Rattle.b1_report.proofs.parsing.unfinished.Goals as goal
 

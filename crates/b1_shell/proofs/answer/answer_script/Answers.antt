@@ -1,6 +1,6 @@
 use Rattle.std.proofs.Common.{subst}
 use Rattle.b1_schedule.specs.Schedule.{IsPlay, IsStall}
-use Rattle.b1_player.specs.Plays.{PlaysScript}
+use Rattle.b1_play.specs.Plays.{PlaysScript}
 use Rattle.b1_shell.proofs.Plays.{serial_record}
 use Rattle.b1_shell.proofs.answer.answer_script.Goals as goal
 

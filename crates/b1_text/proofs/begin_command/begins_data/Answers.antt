@@ -1,5 +1,5 @@
 use Rattle.std.proofs.Common.{[], codes}
-use Rattle.b1_words.specs.Numbers.{hex_text}
+use Rattle.b1_text_words.specs.Numbers.{hex_text}
 use Rattle.b1_text.specs.Nexts.{IsPayload}
 use Rattle.b1_text.proofs.Begins.{word_some, word_none}
 use Rattle.b1_text.proofs.Loads.{bytes_test, no_payload}

@@ -1,4 +1,4 @@
-use Rattle.b1_words.specs.Items.{item_text, IsItem}
+use Rattle.b1_text_words.specs.Items.{item_text, IsItem}
 use Rattle.b1_text.proofs.Begins.{word_some, word_none}
 use Rattle.b1_text.proofs.Parts.{some_item}
 use Rattle.b1_text.proofs.begin_parts.begins_one.Goals as goal

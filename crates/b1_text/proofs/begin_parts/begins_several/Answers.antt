@@ -1,6 +1,6 @@
 use Rattle.std.proofs.Common.{[]}
-use Rattle.b1_words.specs.Items.{item_text, AreItems}
-use Rattle.b1_words.specs.Numbers.{list_text}
+use Rattle.b1_text_words.specs.Items.{item_text, AreItems}
+use Rattle.b1_text_words.specs.Numbers.{list_text}
 use Rattle.b1_text.proofs.Begins.{word_some, word_none}
 use Rattle.b1_text.proofs.Parts.{no_items}
 use Rattle.b1_text.proofs.begin_parts.begins_several.Goals as goal

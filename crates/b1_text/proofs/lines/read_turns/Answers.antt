@@ -1,5 +1,5 @@
 use Rattle.std.proofs.Common.{◌≡◌, ◌++◌, ◌∙◌, ℕ, List, Some, codes, subst, sym}
-use Rattle.b1_words.specs.Words.{Reads}
+use Rattle.b1_text_words.specs.Words.{Reads}
 use Rattle.b1_text.specs.declared.statement.Statement.TheVariants as says
 use Rattle.b1_text.specs.Texts.{statement_text}
 use Rattle.b1_text.specs.Drafts.{Fits}

@@ -1,7 +1,7 @@
 -- What is written so far: the first, and each further one behind a comma.
 use Rattle.std.proofs.Common.{◌≡◌, ◌++◌, string_bytes, codes, take}
 use Rattle.std.specs.List.{flat_map}
-use Rattle.b1_words.specs.Numbers.{script_handle_text}
+use Rattle.b1_text_words.specs.Numbers.{script_handle_text}
 use Rattle.b1_text.proofs.words.write_handles.Given as goal
 
 abbrev pub invariant-loop-number : goal.invariant-loop-number

@@ -1,7 +1,7 @@
 -- What is written so far: a pair for each byte.
 use Rattle.std.proofs.Common.{◌≡◌, ◌++◌, string_bytes, take}
 use Rattle.std.specs.List.{flat_map}
-use Rattle.b1_words.specs.Numbers.{hex_pair}
+use Rattle.b1_text_words.specs.Numbers.{hex_pair}
 use Rattle.b1_text.proofs.words.write_hex.Given as goal
 
 abbrev pub invariant-loop-byte : goal.invariant-loop-byte

@@ -2,7 +2,7 @@ use Rattle.std.proofs.Common.{◌≡◌, ◌==◌, true, sym, subst, refl, rules
 use Rattle.std.specs.List.{list_any}
 use Rattle.b1_model.specs.MachineParts.{HandleRecord}
 use Rattle.b1_model.specs.MachineTables.{is_needed}
-use Rattle.b1_mail.specs.Mail.{Mail}
+use Rattle.b1_peer_queue.specs.Mail.{Mail}
 use Rattle.b1_peer.specs.Seen.{PeerSeen}
 use Rattle.b1_peer.proofs.Bridges.{all_from_has}
 use Rattle.b1_peer.proofs.KeptStage.{entry_is, draft_sound, stage_done, none_received, received_by}

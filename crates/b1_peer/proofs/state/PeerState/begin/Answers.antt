@@ -2,7 +2,7 @@ use Rattle.std.proofs.Common.{length, ◌∙◌}
 use native.Mathlib.Omega.{arith}
 use Rattle.b1_model.specs.MachineParts.{is_live}
 use Rattle.b1_nodes.specs.Nodes.{AllMade}
-use Rattle.b1_parts.specs.Needs.{StagesAnew}
+use Rattle.b1_inv_peer.specs.Needs.{StagesAnew}
 use Rattle.b1_peer.proofs.KeptSends.{of_fields}
 use Rattle.b1_peer.proofs.KeptDestroys.{doomed_few, begin_doomed, begin_kept, begin_seen, begin_holders}
 use Rattle.b1_peer.proofs.state.PeerState.begin.Goals as goal

@@ -1,5 +1,5 @@
 use Rattle.b1_model.specs.MachineSend.{find_stage}
-use Rattle.b1_parts.specs.Needs.{SlotsFit, CommitsAnew}
+use Rattle.b1_inv_peer.specs.Needs.{SlotsFit, CommitsAnew}
 use Rattle.b1_peer.proofs.KeptSends.{of_fields, committable, commit_kept}
 use Rattle.b1_peer.proofs.state.PeerState.commit.Goals as goal
 

@@ -1,6 +1,6 @@
 use Rattle.std.proofs.Common.{◌≡◌, true, length, sym, ◌∙◌, ap, subst, arith}
 use Rattle.b1_model.specs.MachineReceive.{received, received_part}
-use Rattle.b1_parts.specs.Needs.{HeldFew}
+use Rattle.b1_inv_peer.specs.Needs.{HeldFew}
 use Rattle.b1_peer.specs.Seen.{PeerSeen}
 use Rattle.b1_peer.specs.Fronts.{front_goes, front_gone, StillReceived}
 use Rattle.b1_peer.proofs.Discards.{gone_part, gone_front, gone_removed, gone_len, gone_given, gone_held}

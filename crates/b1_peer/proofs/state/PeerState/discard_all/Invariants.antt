@@ -1,6 +1,6 @@
 use Rattle.std.proofs.Common.{◌≡◌, ◌+◌, length}
 use Rattle.b1_model.specs.MachineReceive.{received, received_part}
-use Rattle.b1_parts.specs.Needs.{HeldFew}
+use Rattle.b1_inv_peer.specs.Needs.{HeldFew}
 use Rattle.b1_peer.specs.Fronts.{StillReceived}
 use Rattle.b1_peer.proofs.state.PeerState.discard_all.Given as goal
 

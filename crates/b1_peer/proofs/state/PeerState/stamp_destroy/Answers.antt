@@ -1,4 +1,4 @@
-use Rattle.b1_parts.specs.Needs.{AreDying}
+use Rattle.b1_inv_peer.specs.Needs.{AreDying}
 use Rattle.b1_peer.proofs.KeptSends.{of_fields}
 use Rattle.b1_peer.proofs.KeptStamps.{stamp_kept}
 use Rattle.b1_peer.proofs.state.PeerState.stamp_destroy.Goals as goal

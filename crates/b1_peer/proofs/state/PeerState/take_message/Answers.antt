@@ -1,6 +1,6 @@
 use Rattle.std.proofs.Common.{◌≡◌, ◌<◌, ◌^◌, refl, rules}
 use Rattle.b1_model.specs.MachineParts.{HandleRecord}
-use Rattle.b1_parts.specs.Needs.{HeldFew}
+use Rattle.b1_inv_peer.specs.Needs.{HeldFew}
 use Rattle.b1_peer.specs.Seen.{PeerSeen}
 use Rattle.b1_peer.specs.declared.front.Kind.TheVariants as kind
 use Rattle.b1_peer.specs.Fronts.{kind_of}

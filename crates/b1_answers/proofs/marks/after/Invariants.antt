@@ -1,6 +1,0 @@
-use Rattle.std.proofs.Common.{◌≡◌, ◌≤◌, length, drop}
-use Rattle.b1_answers.specs.Reading.{strip}
-use Rattle.b1_answers.proofs.marks.after.Given as goal
-
-abbrev pub invariant-loop-at : goal.invariant-loop-at
-invariant-loop-at l = (strip (drop l.at l.letters) (drop l.at l.bytes) ≡ strip l.letters l.bytes) × (l.at ≤ length l.bytes)

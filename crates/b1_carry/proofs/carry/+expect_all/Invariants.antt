@@ -1,5 +1,0 @@
-use Rattle.std.proofs.Common.{length}
-use Rattle.b1_carry.proofs.carry.+expect_all.Given as goal
-
-abbrev pub decreases-expect_all : goal.decreases-expect_all
-decreases-expect_all l = length l.nodes.now

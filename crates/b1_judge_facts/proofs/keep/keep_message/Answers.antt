@@ -1,0 +1,5 @@
+use Rattle.b1_judge_facts.proofs.Keeping.{keeps_insert}
+use Rattle.b1_judge_facts.proofs.keep.keep_message.Goals as goal
+
+pub returns-in_ok-insert : goal.returns-in_ok-insert
+returns-in_ok-insert c = rw c.in-Some.is (keeps_insert c.args.stamp c.args.origin c.in-Some.message c.args.messages.now c.insert.new.self c.in_ok-insert.ensures.updates.0)

@@ -1,0 +1,106 @@
+ghost use Rattle.std.specs.Prelude.{◌≡◌, ◌≢◌, ◌<◌, ◌≤◌, ◌==◌, find, length, position, true, false, AllPairs, All, IsSome, vec_len, vec_capacity, if◌then◌else◌};
+ghost use Rattle.std.specs.List.{AllWithin};
+ghost use Rattle.std.specs.declared.cmp.Ordering.TheVariants.{Less};
+ghost use Rattle.b1_model.specs.Keys.{compare_keys};
+ghost use Rattle.b1_queue.specs.Queue.{IsNewKey, is_before, with_entry, without};
+ghost use Rattle.b1_entry.specs.Table.{entry_at};
+ghost use Rattle.b1_peer_queue.specs.Rows.{is_marked as may_be_wanted, passes, row};
+
+use crate::wanted::{Wanted, is_marked, is_wanted};
+use b1_entry::EntryTable;
+use b1_model::{Key, key_cmp};
+
+/// How many marks stand before a key.
+fn place_of(marks: &[(Key, usize)], key: &Key) -> usize
+    requires { AllPairs (λ a b. compare_keys a.0 b.0 ≡ Less) marks.now }
+    ensures within { result ≤ length marks.now }
+    ensures before { AllWithin (λ e. is_before e.0 key.now ≡ true) marks.now 0 result }
+    ensures after { AllWithin (λ e. is_before e.0 key.now ≡ false) marks.now result (length marks.now) }
+{
+    marks.partition_point(|e| key_cmp(&e.0, key).is_lt())
+}
+
+/// Where the mark of a place stands.
+fn index_of(marks: &[(Key, usize)], place: usize) -> Option<usize>
+    ensures { result ≡ position (λ e. e.1 == place) marks.now }
+{
+    marks.iter().position(|e| e.1 == place)
+}
+
+/// Marks a place under its key.
+fn mark(marks: &mut Vec<(Key, usize)>, key: Key, place: usize)
+    requires room { vec_len marks.old < vec_capacity marks.old }
+    requires ascending { AllPairs (λ a b. compare_keys a.0 b.0 ≡ Less) marks.old.items }
+    requires new_key { IsNewKey key marks.old.items }
+    ensures marks { marks.new.items ≡ with_entry key place marks.old.items }
+    ensures capacity { vec_capacity marks.new ≡ vec_capacity marks.old }
+{
+    let at = place_of(marks, &key);
+    match marks.insert(at, (key, place)) {
+        Ok(()) => {}
+        Err(_) => unreachable!(),
+    }
+}
+
+/// Marks a place under its key, where it may be looked for.
+pub fn mark_where(marks: &mut Vec<(Key, usize)>, marked: bool, key: Key, place: usize)
+    requires room { vec_len marks.old < vec_capacity marks.old }
+    requires ascending { AllPairs (λ a b. compare_keys a.0 b.0 ≡ Less) marks.old.items }
+    requires new_key { IsNewKey key marks.old.items }
+    ensures marks { marks.new.items ≡ (if marked then with_entry key place marks.old.items else marks.old.items) }
+    ensures capacity { vec_capacity marks.new ≡ vec_capacity marks.old }
+{
+    if marked {
+        mark(marks, key, place);
+    }
+}
+
+/// Takes the mark of a place away, if it has one.
+pub fn unmark(marks: &mut Vec<(Key, usize)>, place: usize)
+    requires { AllPairs (λ a b. a.1 ≢ b.1) marks.old.items }
+    ensures marks { marks.new.items ≡ without place marks.old.items }
+    ensures capacity { vec_capacity marks.new ≡ vec_capacity marks.old }
+{
+    if let Some(at) = index_of(marks, place) {
+        marks.remove(at);
+    }
+}
+
+/// Whether a place's entry is what is looked for.
+fn is_wanted_at(entries: &EntryTable, key: Key, place: usize, wanted: Wanted) -> bool
+    requires { IsSome (entry_at entries.now.slots place) }
+    ensures { result ≡ passes wanted (row entries.now.slots (key, place)) }
+{
+    match entries.get(place) {
+        Some(entry) => is_wanted(wanted, &key, entry),
+        None => unreachable!(),
+    }
+}
+
+/// Whether a place's entry may be looked for under a key.
+pub fn is_marked_at(entries: &EntryTable, key: Key, place: usize) -> bool
+    requires { IsSome (entry_at entries.now.slots place) }
+    ensures { result ≡ may_be_wanted (row entries.now.slots (key, place)) }
+{
+    match entries.get(place) {
+        Some(entry) => is_marked(&key, entry),
+        None => unreachable!(),
+    }
+}
+
+/// The first mark whose entry is what is looked for.
+pub fn first_wanted(
+    marks: &[(Key, usize)],
+    entries: &EntryTable,
+    wanted: Wanted,
+) -> Option<(Key, usize)>
+    requires { All (λ e. IsSome (entry_at entries.now.slots e.1)) marks.now }
+    ensures { result ≡ find (λ e. passes wanted (row entries.now.slots e)) marks.now }
+{
+    for (key, place) in marks {
+        if is_wanted_at(entries, *key, *place, wanted) {
+            return Some((*key, *place));
+        }
+    }
+    None
+}

@@ -1,0 +1,32 @@
+-- What the play of a script comes to.
+use Rattle.std.specs.Prelude.{◌≡◌, ℕ, List, Option, false}
+use Rattle.b1_model.specs.declared.records.Record.{Record}
+use Rattle.b1_schedule.specs.Shortage.{shortage_of}
+use Rattle.b1_script.specs.declared.script.Script.{Script}
+use Rattle.b1_schedule.specs.Schedule.{Turning, Round, IsPlay, IsStall}
+use Rattle.b1_schedule.specs.Played.{PlayedTo}
+use Rattle.b1_core.specs.Turns.{Bus}
+use Rattle.b1_play.specs.Runs.{IsGood, Follows, Plays}
+use Rattle.b1_play.specs.declared.playing.Played.{Played}
+use Rattle.b1_play.specs.declared.playing.Played.TheVariants.{Done, Stalled}
+
+-- turns lead from one bus, with some turns left, to another
+pub record TurnsTo (b : Bus) (from : List ℕ) (c : Bus) (to : List ℕ) : Type 0 where
+  pub follows : Follows b c
+  pub played : Plays b (Turning from) c (Turning to)
+
+-- the turns of a script have been played
+pub record Begun (s : Script) (b : Bus) : Type 0 where
+  pub good : IsGood b
+  pub opening : b.opening ≡ s.opening
+  pub commands : b.commands ≡ s.commands
+  pub played : PlayedTo s.opening s.commands s.turns b.state (Round 0 false)
+
+-- the record of what is played, or where the play without want of memory stalls
+abbrev pub PlaysScript : Script → Played → Type 0
+PlaysScript s (Done r) = IsPlay s.opening s.commands s.turns r
+PlaysScript s (Stalled waiting reached) = IsStall s.opening s.commands s.turns waiting reached
+
+-- a stall with its record, which shows no want of memory
+abbrev pub StallShown : Record → List ℕ → Played → Type 0
+StallShown r waiting played = (played ≡ Stalled waiting r) × ((p k : ℕ) (place : Option ℕ) → shortage_of r p k place ≡ false)

@@ -1,9 +1,0 @@
--- The attempt runs, or has ended.
-use Rattle.b1_player.specs.Runs.{DrainTurns, work_after}
-use Rattle.b1_player.proofs.commands.run_attempt.Given as goal
-
-abbrev pub invariant-loop-turn : goal.invariant-loop-turn
-invariant-loop-turn g l = DrainTurns l.fn.core l.p l.turn l.core
-
-abbrev pub decreases-loop-turn : goal.decreases-loop-turn
-decreases-loop-turn g l = work_after l.turn l.core l.p

@@ -1,0 +1,11 @@
+use Rattle.b1_report_lines.proofs.ExactLines.{header_tells, count_tells, done_tells}
+use Rattle.b1_report_lines.proofs.lines.read_line.Goals as goal
+
+pub returns-in-Header : goal.returns-in-Header
+returns-in-Header c = rw c.in-Header.is (header_tells c.args.peers c.args.bytes.now c.fixed.result c.fixed.ensures)
+
+pub returns-in-Count : goal.returns-in-Count
+returns-in-Count c = rw c.in-Count.is (count_tells c.args.peers c.args.bytes.now c.count.result c.count.ensures)
+
+pub returns-in-Done : goal.returns-in-Done
+returns-in-Done c = rw c.in-Done.is (done_tells c.args.peers c.args.bytes.now)

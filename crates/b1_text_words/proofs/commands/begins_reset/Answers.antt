@@ -1,0 +1,6 @@
+-- A line of that word and of numbers.
+use Rattle.b1_text_words.proofs.Parts.{reset_begins}
+use Rattle.b1_text_words.proofs.commands.begins_reset.Goals as goal
+
+pub returns : goal.returns
+returns c = reset_begins c.args.form c.begins_line.result c.args.line.now c.begins_line.ensures
