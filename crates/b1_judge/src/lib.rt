@@ -18,6 +18,3 @@ mod whole;
 
 pub use judging::judge;
 pub use verdict::{Clause, Verdict, word};
-
-#[cfg(test)]
-mod tests;

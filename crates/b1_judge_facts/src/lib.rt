@@ -22,6 +22,3 @@ pub use laws::order_has_the_stamped_calls;
 pub use message::Message;
 pub use node::NodeId;
 pub use walk::Walk;
-
-#[cfg(test)]
-mod tests;

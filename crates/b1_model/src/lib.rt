@@ -37,6 +37,3 @@ pub use parts::{
 pub use peers::PeerSet;
 pub use records::{Call, Calls, PeerCalls, PeerLists, Record, Stamp, Stamps};
 pub use tables::Usage;
-
-#[cfg(test)]
-mod tests;

@@ -19,7 +19,8 @@ use Rattle.b1_shell.specs.declared.forms.Form.{Form}
 use Rattle.b1_shell.specs.declared.forms.Form.TheVariants.{Play, Asm, Dump, Check}
 use Rattle.b1_shell.specs.Answers.{Says, IsSaid, TookPart}
 use Rattle.b1_shell.specs.Faults.{IsFault, long, report}
-use Rattle.b1_shell.specs.Forms.{most_input, most_check}
+use Rattle.b1_model.specs.declared.limits.TheConstants.{MOST_CHECKED}
+use Rattle.b1_shell.specs.Forms.{most_input}
 use Rattle.b1_shell.specs.Texts.{bad_line}
 
 -- too many bytes are the first fault
@@ -56,7 +57,7 @@ behind : (bytes : List ℕ) (end : ℕ) → take (length bytes - end) (drop end 
 behind bytes end = let n = length-drop end bytes in take_all (length bytes - end) (drop end bytes) (omega (arith, n))
 
 -- a fault of the report behind a script is one of the input
-pub report_fault : (input : List ℕ) (s : Script) (end inner peers : ℕ) (cause : Cause) (why : NotRead) → length input ≤ most_check → IsScript input s end → peers ≡ length s.opening.peers → why ≡ unread.Bad inner cause → reports.TellsFault peers (take (length input - end) (drop end input)) why → IsFault Check input (end + inner) cause
+pub report_fault : (input : List ℕ) (s : Script) (end inner peers : ℕ) (cause : Cause) (why : NotRead) → length input ≤ MOST_CHECKED → IsScript input s end → peers ≡ length s.opening.peers → why ≡ unread.Bad inner cause → reports.TellsFault peers (take (length input - end) (drop end input)) why → IsFault Check input (end + inner) cause
 report_fault input s end inner peers cause why few stands count is fault =
     let counted : reports.TellsFault (length s.opening.peers) (take (length input - end) (drop end input)) why = subst (λ n. reports.TellsFault n (take (length input - end) (drop end input)) why) count fault in
     let seen : reports.TellsFault (length s.opening.peers) (drop end input) why = subst (λ tail. reports.TellsFault (length s.opening.peers) tail why) (behind input end) counted in

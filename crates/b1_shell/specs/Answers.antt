@@ -1,5 +1,6 @@
 -- What a call of the program says of its input.
-use Rattle.std.specs.Prelude.{◌≡◌, ℕ, ◌<◌, List, Option, drop, length}
+use Rattle.std.specs.Prelude.{◌≡◌, ℕ, ◌≤◌, ◌<◌, List, Option, drop, length}
+use Rattle.b1_model.specs.declared.limits.TheConstants.{MOST_CHECKED}
 use Rattle.b1_errs.specs.declared.Cause.{Cause}
 use Rattle.b1_io.specs.Streams.{Took, TookSuch}
 use Rattle.b1_judge.specs.declared.verdict.Clause.{Clause}
@@ -47,9 +48,10 @@ pub record IsDumped (input text : List ℕ) : Type 0 where
 
 -- ---- check
 
--- the input is a script, and behind it the report of a record of as many peers, to its end
+-- the input isn't too long, and is a script and behind it the report of a record of as many peers, to its end
 pub record HasReport (input : List ℕ) (s : Script) (r : Record) : Type 0 where
   pub end : ℕ
+  pub few : length input ≤ MOST_CHECKED
   pub script : IsScript input s end
   pub report : reports.IsReport (length s.opening.peers) (drop end input) r
 

@@ -10,13 +10,13 @@ use Rattle.b1_script.specs.Spelling.{IsScript}
 use Rattle.b1_text.specs.Accepted as texts
 use Rattle.b1_shell.specs.declared.forms.Form.{Form}
 use Rattle.b1_shell.specs.declared.forms.Form.TheVariants.{Play, Asm, Dump, Check}
-use Rattle.b1_shell.specs.Forms.{most_check}
+use Rattle.b1_model.specs.declared.limits.TheConstants.{MOST_CHECKED}
 
 -- a script with its report is too long; or the script has a fault; or the report behind the script, counted from the start of the input
 pub data IsCheckFault (input : List ℕ) (at : ℕ) (cause : Cause) : Type 0 where
-  long : most_check < length input → at ≡ most_check → cause ≡ Long → IsCheckFault input at cause
-  script : length input ≤ most_check → bad_script input ≡ Some (at, cause) → IsCheckFault input at cause
-  report : length input ≤ most_check → (s : Script) (end inner : ℕ) → IsScript input s end → reports.TellsFault (length s.opening.peers) (drop end input) (unread.Bad inner cause) → at ≡ end + inner → IsCheckFault input at cause
+  long : MOST_CHECKED < length input → at ≡ MOST_CHECKED → cause ≡ Long → IsCheckFault input at cause
+  script : length input ≤ MOST_CHECKED → bad_script input ≡ Some (at, cause) → IsCheckFault input at cause
+  report : length input ≤ MOST_CHECKED → (s : Script) (end inner : ℕ) → IsScript input s end → reports.TellsFault (length s.opening.peers) (drop end input) (unread.Bad inner cause) → at ≡ end + inner → IsCheckFault input at cause
 
 -- the first fault of the input
 abbrev pub IsFault : Form → List ℕ → ℕ → Cause → Type 0

@@ -1,7 +1,6 @@
 -- What the program's words ask for.
 use Rattle.std.specs.Prelude.{◌≡◌, ℕ, List, [], ◌∷◌, codes}
-use Rattle.b1_script.specs.Spelling.{most_script}
-use Rattle.b1_text.specs.Accepted.{most_text}
+use Rattle.b1_model.specs.declared.limits.TheConstants.{MOST_CHECKED, MOST_SCRIPT, MOST_TEXT}
 use Rattle.b1_shell.specs.declared.forms.Form.{Form}
 use Rattle.b1_shell.specs.declared.forms.Form.TheVariants.{Play, Asm, Dump, Check}
 
@@ -26,13 +25,9 @@ pub record AsksFor (words : List (List ℕ)) (P : Form → Type 0) : Type 0 wher
   pub asks : Asks words form
   pub holds : P form
 
--- how many bytes a script with its report has at most
-abbrev pub most_check : ℕ
-most_check = 268435456
-
 -- how many bytes the input has at most
 abbrev pub most_input : Form → ℕ
-most_input Play = most_script
-most_input Asm = most_text
-most_input Dump = most_script
-most_input Check = most_check
+most_input Play = MOST_SCRIPT
+most_input Asm = MOST_TEXT
+most_input Dump = MOST_SCRIPT
+most_input Check = MOST_CHECKED

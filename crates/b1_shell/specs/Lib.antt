@@ -3,3 +3,4 @@ pub mod Forms
 pub mod Faults
 pub mod Plays
 pub mod Answers
+pub mod Ends

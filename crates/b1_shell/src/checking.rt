@@ -3,21 +3,20 @@ ghost use Rattle.std.specs.Prelude.{◌≤◌, drop, length, IfOk};
 ghost use Rattle.b1_report.specs.Parsing as report;
 ghost use Rattle.b1_script.specs.Spelling.{IsScript};
 ghost use Rattle.b1_shell.specs.declared.forms.Form.TheVariants.{Check};
-ghost use Rattle.b1_shell.specs.Forms as forms;
 ghost use Rattle.b1_shell.specs.Answers.{Says};
 
 use crate::Said;
 use crate::lines::{bad_line, broken_line, legal_line};
 use b1_errs::NotRead;
 use b1_judge::{Verdict, judge};
-use b1_model::Record;
+use b1_model::{MOST_CHECKED, Record};
 use b1_report::parse;
 use b1_script::{Script, read};
 use std::alloc::{AllocError, Global};
 
 /// What is said of a script with its report. An error is want of memory.
 pub fn answer_check(alloc: Global, bytes: &[u8]) -> Result<(Said, Vec<u8>), AllocError>
-    requires { length bytes.now ≤ forms.most_check }
+    requires { length bytes.now ≤ MOST_CHECKED }
     ensures { IfOk result (λ r. Says Check bytes.now r.0 r.1.items) }
 {
     match read(alloc, bytes) {
@@ -34,7 +33,7 @@ fn answer_report(
     script: &Script,
     end: usize,
 ) -> Result<(Said, Vec<u8>), AllocError>
-    requires few { length bytes.now ≤ forms.most_check }
+    requires few { length bytes.now ≤ MOST_CHECKED }
     requires script { IsScript bytes.now script.now end }
     ensures { IfOk result (λ r. Says Check bytes.now r.0 r.1.items) }
 {
@@ -53,6 +52,7 @@ fn answer_record(
     end: usize,
     outcome: &Record,
 ) -> Result<(Said, Vec<u8>), AllocError>
+    requires few { length bytes.now ≤ MOST_CHECKED }
     requires script { IsScript bytes.now script.now end }
     requires report { report.IsReport (length script.now.opening.peers) (drop end bytes.now) outcome.now }
     ensures { IfOk result (λ r. Says Check bytes.now r.0 r.1.items) }

@@ -2,6 +2,8 @@
 ghost use Rattle.std.specs.Prelude.{◌≡◌, map, string_bytes, IfNone, IfSome};
 ghost use Rattle.b1_shell.specs.Forms as forms;
 
+use b1_model::{MOST_CHECKED, MOST_SCRIPT, MOST_TEXT};
+
 /// What is done with the input.
 #[derive(Clone, Copy, Debug, PartialEq, Eq)]
 pub enum Form {
@@ -45,8 +47,8 @@ pub fn most_input(form: Form) -> usize
     ensures { result ≡ forms.most_input form }
 {
     match form {
-        Form::Play | Form::Dump => 16_777_216,
-        Form::Asm => 67_108_864,
-        Form::Check => 268_435_456,
+        Form::Play | Form::Dump => MOST_SCRIPT,
+        Form::Asm => MOST_TEXT,
+        Form::Check => MOST_CHECKED,
     }
 }

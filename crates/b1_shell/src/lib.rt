@@ -6,15 +6,13 @@ mod checking;
 mod forms;
 mod lines;
 mod stalls;
-#[cfg(test)]
-mod tests;
 mod texts;
 
-ghost use Rattle.std.specs.Prelude.{◌≡◌, ◌<◌, ◌≤◌, ◌⊎◌, [], Some, map, length, string_bytes, IfOk, IfErr, IfSome};
-ghost use Rattle.b1_io.specs.Streams.{Rose, Took, TookSuch};
-ghost use Rattle.b1_shell.specs.Answers.{IsDone, IsFaulty, HasStalled, IsBroken, IsSaid, Says, TookText, TookPart, status};
-ghost use Rattle.b1_shell.specs.Forms.{AsksFor, AsksNothing, most_input as most};
-ghost use Rattle.b1_shell.specs.Texts.{usage_line};
+ghost use Rattle.std.specs.Prelude.{◌≡◌, ◌≤◌, [], Some, length, IfOk, IfErr, IfSome};
+ghost use Rattle.b1_io.specs.Streams.{Rose};
+ghost use Rattle.b1_shell.specs.Answers.{Says, status};
+ghost use Rattle.b1_shell.specs.Forms.{AsksNothing, most_input as most};
+ghost use Rattle.b1_shell.specs.Ends.{spelled, TellsUsage, TellsInput, ReadsToEnd};
 ghost use Rattle.b1_shell.specs.declared.Said.TheVariants.{Done, Stalled, Broken};
 ghost use Rattle.b1_shell.specs.declared.Unsaid.TheVariants.{Fault, Memory};
 
@@ -90,6 +88,37 @@ fn status_of(said: Said) -> u8
     }
 }
 
+// Does what the words say, on one thread.
+fn run<S: Source, K: Sink>(alloc: Global, words: &[String], source: &mut S, sink: &mut K) -> u8
+    ensures known { result ≤ 7 }
+    ensures unread { AsksNothing (spelled words.now) → source.new ≡ source.old }
+    ensures unwritten { result ≡ 4 → sink.new ≡ sink.old }
+    ensures memory { result ≡ 6 → sink.new ≡ sink.old }
+    ensures read_fault { result ≡ 4 → Rose (S.faults source.old) (S.faults source.new) }
+    ensures write_fault { result ≡ 5 → Rose (K.faults sink.old) (K.faults sink.new) }
+    ensures usage { TellsUsage (spelled words.now) (K.taken sink.old) (K.taken sink.new) result }
+    ensures ends { ReadsToEnd (spelled words.now) (S.left source.old) (S.left source.new) result }
+    ensures input { TellsInput (spelled words.now) (S.left source.old) (K.taken sink.old) (K.taken sink.new) result }
+{
+    let Some(form) = form_of(words) else {
+        return match write_all(
+            sink,
+            "usage: bus1sh play|run|asm|dump|check|soak N\n".as_bytes(),
+        ) {
+            Ok(()) => 1,
+            Err(_) => 5,
+        };
+    };
+    match read_and_answer(alloc, form, source) {
+        Ok((said, text)) => match write_all(sink, &text) {
+            Ok(()) => status_of(said),
+            Err(_) => 5,
+        },
+        Err(Unsaid::Fault) => 4,
+        Err(Unsaid::Memory) => 6,
+    }
+}
+
 /// Does what the words say, on one thread, and returns the status:
 ///
 /// - 0: what was asked for was done, and written: with `play` the source held a script, which was played, and its
@@ -114,81 +143,29 @@ pub fn quiet<S: Source, K: Sink>(
     sink: &mut K,
 ) -> u8
     ensures known { result ≤ 7 }
-    // With other words, the usage line.
-    ensures usage { result ≡ 1 → AsksNothing (map string_bytes words.now) }
-    ensures usage_only { AsksNothing (map string_bytes words.now) → (result ≡ 1) ⊎ (result ≡ 5) }
-    ensures usage_unread { AsksNothing (map string_bytes words.now) → source.new ≡ source.old }
-    ensures usage_said { result ≡ 1 → Took (K.taken sink.old) (K.taken sink.new) usage_line }
-    // What was asked for.
-    ensures done { result ≡ 0 → AsksFor (map string_bytes words.now) (λ form. IfSome (S.left source.old) (λ held. TookText (K.taken sink.old) (K.taken sink.new) (IsDone form held))) }
-    ensures done_end { result ≡ 0 → IfSome (S.left source.old) (λ held. S.left source.new ≡ Some []) }
-    // The line for an input that is refused.
-    ensures bad { result ≡ 2 → AsksFor (map string_bytes words.now) (λ form. IfSome (S.left source.old) (λ held. TookText (K.taken sink.old) (K.taken sink.new) (IsFaulty form held))) }
-    ensures bad_end { result ≡ 2 → AsksFor (map string_bytes words.now) (λ form. IfSome (S.left source.old) (λ held. length held ≤ most form → S.left source.new ≡ Some [])) }
-    // The line and the report of a script that stalls.
-    ensures stalled { result ≡ 3 → AsksFor (map string_bytes words.now) (λ form. IfSome (S.left source.old) (λ held. TookText (K.taken sink.old) (K.taken sink.new) (HasStalled form held))) }
-    ensures stalled_end { result ≡ 3 → IfSome (S.left source.old) (λ held. S.left source.new ≡ Some []) }
-    // The line for a report that is not legal.
-    ensures broken { result ≡ 7 → AsksFor (map string_bytes words.now) (λ form. IfSome (S.left source.old) (λ held. TookText (K.taken sink.old) (K.taken sink.new) (IsBroken form held))) }
-    ensures broken_end { result ≡ 7 → IfSome (S.left source.old) (λ held. S.left source.new ≡ Some []) }
-    // A read that failed.
-    ensures read_fault { result ≡ 4 → Rose (S.faults source.old) (S.faults source.new) }
+    ensures unread { AsksNothing (spelled words.now) → source.new ≡ source.old }
     ensures unwritten { result ≡ 4 → sink.new ≡ sink.old }
-    // A write that failed.
-    ensures write_fault { result ≡ 5 → Rose (K.faults sink.old) (K.faults sink.new) }
-    ensures usage_part { result ≡ 5 → AsksNothing (map string_bytes words.now) → TookSuch (K.taken sink.old) (K.taken sink.new) usage_line (λ n. n < length usage_line) }
-    ensures part { result ≡ 5 → (AsksNothing (map string_bytes words.now) → ⊥) → AsksFor (map string_bytes words.now) (λ form. IfSome (S.left source.old) (λ held. TookPart (K.taken sink.old) (K.taken sink.new) (IsSaid form held))) }
-    // Want of memory.
     ensures memory { result ≡ 6 → sink.new ≡ sink.old }
+    ensures read_fault { result ≡ 4 → Rose (S.faults source.old) (S.faults source.new) }
+    ensures write_fault { result ≡ 5 → Rose (K.faults sink.old) (K.faults sink.new) }
+    ensures usage { TellsUsage (spelled words.now) (K.taken sink.old) (K.taken sink.new) result }
+    ensures ends { ReadsToEnd (spelled words.now) (S.left source.old) (S.left source.new) result }
+    ensures input { TellsInput (spelled words.now) (S.left source.old) (K.taken sink.old) (K.taken sink.new) result }
 {
-    let Some(form) = form_of(words) else {
-        return match write_all(
-            sink,
-            "usage: bus1sh play|run|asm|dump|check|soak N\n".as_bytes(),
-        ) {
-            Ok(()) => 1,
-            Err(_) => 5,
-        };
-    };
-    match read_and_answer(alloc, form, source) {
-        Ok((said, text)) => match write_all(sink, &text) {
-            Ok(()) => status_of(said),
-            Err(_) => 5,
-        },
-        Err(Unsaid::Fault) => 4,
-        Err(Unsaid::Memory) => 6,
-    }
+    run(alloc, words, source, sink)
 }
 
 /// All that the program does: so far, what `quiet` does.
 pub fn top<S: Source, K: Sink>(alloc: Global, words: &[String], source: &mut S, sink: &mut K) -> u8
     ensures known { result ≤ 7 }
-    // With other words, the usage line.
-    ensures usage { result ≡ 1 → AsksNothing (map string_bytes words.now) }
-    ensures usage_only { AsksNothing (map string_bytes words.now) → (result ≡ 1) ⊎ (result ≡ 5) }
-    ensures usage_unread { AsksNothing (map string_bytes words.now) → source.new ≡ source.old }
-    ensures usage_said { result ≡ 1 → Took (K.taken sink.old) (K.taken sink.new) usage_line }
-    // What was asked for.
-    ensures done { result ≡ 0 → AsksFor (map string_bytes words.now) (λ form. IfSome (S.left source.old) (λ held. TookText (K.taken sink.old) (K.taken sink.new) (IsDone form held))) }
-    ensures done_end { result ≡ 0 → IfSome (S.left source.old) (λ held. S.left source.new ≡ Some []) }
-    // The line for an input that is refused.
-    ensures bad { result ≡ 2 → AsksFor (map string_bytes words.now) (λ form. IfSome (S.left source.old) (λ held. TookText (K.taken sink.old) (K.taken sink.new) (IsFaulty form held))) }
-    ensures bad_end { result ≡ 2 → AsksFor (map string_bytes words.now) (λ form. IfSome (S.left source.old) (λ held. length held ≤ most form → S.left source.new ≡ Some [])) }
-    // The line and the report of a script that stalls.
-    ensures stalled { result ≡ 3 → AsksFor (map string_bytes words.now) (λ form. IfSome (S.left source.old) (λ held. TookText (K.taken sink.old) (K.taken sink.new) (HasStalled form held))) }
-    ensures stalled_end { result ≡ 3 → IfSome (S.left source.old) (λ held. S.left source.new ≡ Some []) }
-    // The line for a report that is not legal.
-    ensures broken { result ≡ 7 → AsksFor (map string_bytes words.now) (λ form. IfSome (S.left source.old) (λ held. TookText (K.taken sink.old) (K.taken sink.new) (IsBroken form held))) }
-    ensures broken_end { result ≡ 7 → IfSome (S.left source.old) (λ held. S.left source.new ≡ Some []) }
-    // A read that failed.
-    ensures read_fault { result ≡ 4 → Rose (S.faults source.old) (S.faults source.new) }
+    ensures unread { AsksNothing (spelled words.now) → source.new ≡ source.old }
     ensures unwritten { result ≡ 4 → sink.new ≡ sink.old }
-    // A write that failed.
-    ensures write_fault { result ≡ 5 → Rose (K.faults sink.old) (K.faults sink.new) }
-    ensures usage_part { result ≡ 5 → AsksNothing (map string_bytes words.now) → TookSuch (K.taken sink.old) (K.taken sink.new) usage_line (λ n. n < length usage_line) }
-    ensures part { result ≡ 5 → (AsksNothing (map string_bytes words.now) → ⊥) → AsksFor (map string_bytes words.now) (λ form. IfSome (S.left source.old) (λ held. TookPart (K.taken sink.old) (K.taken sink.new) (IsSaid form held))) }
-    // Want of memory.
     ensures memory { result ≡ 6 → sink.new ≡ sink.old }
+    ensures read_fault { result ≡ 4 → Rose (S.faults source.old) (S.faults source.new) }
+    ensures write_fault { result ≡ 5 → Rose (K.faults sink.old) (K.faults sink.new) }
+    ensures usage { TellsUsage (spelled words.now) (K.taken sink.old) (K.taken sink.new) result }
+    ensures ends { ReadsToEnd (spelled words.now) (S.left source.old) (S.left source.new) result }
+    ensures input { TellsInput (spelled words.now) (S.left source.old) (K.taken sink.old) (K.taken sink.new) result }
 {
-    quiet(alloc, words, source, sink)
+    run(alloc, words, source, sink)
 }

@@ -1,4 +1,7 @@
-use super::*;
+use b1_model::{
+    Answer, Call, Calls, Command, Limits, Nums, Opening, PeerCalls, PeerLists, PeerSet, PeerSpec, Peers, Reason, Record, Wire, Wires,
+    errno, order_of, valid_opening,
+};
 use std::alloc::{AllocError, Global};
 use std::test::Fail;
 
@@ -60,15 +63,59 @@ fn openings(rt: HostRuntime) -> Result<(), Fail> {
     Ok(())
 }
 
+// A bus of as many peers as a bus can have, or of one more, each with such a pool.
+fn is_crowd_valid(alloc: Global, peers: usize, pool: u32) -> Result<bool, AllocError> {
+    let limits = Limits {
+        entries: 2,
+        bytes: 16,
+        handles: 0,
+    };
+    let mut specs = Vec::new(alloc);
+    for _ in 0..peers {
+        specs.push(PeerSpec {
+            user: 0,
+            pool,
+            limits,
+        })?;
+    }
+    let opening = Opening {
+        first_clock: 0,
+        peers: Peers::from_vec(specs),
+        wires: Wires::new(alloc),
+    };
+    valid_opening(alloc, &opening)
+}
+
+#[test]
+fn crowds(rt: HostRuntime) -> Result<(), Fail> {
+    let cases = [
+        (0, 8, false),
+        (64, 4_194_304, true),
+        (65, 4_194_304, false),
+        (1024, 262_144, true),
+        (1024, 262_152, false),
+        (1025, 8, false),
+    ];
+    for (peers, pool, valid) in cases {
+        assert_eq!(rt; is_crowd_valid(rt.alloc(), peers, pool)?, valid);
+    }
+    Ok(())
+}
+
 // A peer that is there stays, and the least comes out first.
 #[test]
 fn peers_in_rising_order(rt: HostRuntime) -> Result<(), Fail> {
     let mut peers = PeerSet::new();
     peers.insert(5);
+    peers.insert(1023);
     peers.insert(63);
     peers.insert(0);
     peers.insert(5);
-    assert_eq!(rt; peers.as_slice(), [0, 5, 63].as_slice());
+    assert_eq!(rt; peers.len(), 4);
+    for (index, peer) in [0, 5, 63, 1023].iter().enumerate() {
+        assert_eq!(rt; peers.get(index), Some(*peer));
+    }
+    assert_eq!(rt; peers.get(4), None);
     assert_eq!(rt; peers.take_first(), Some(0));
     assert_eq!(rt; peers.first(), Some(5));
     assert!(rt; peers.contains(63));

@@ -1,7 +1,7 @@
 ghost use Rattle.std.specs.Prelude.{◌≡◌, length, IfOk};
 
-use super::*;
 use b1_errs::NotRead;
+use b1_judge::{Clause, Verdict, judge, word};
 use b1_model::{
     Answer, Bytes, Call, Calls, Command, Front, Key, Nums, PeerCalls, PeerLists, Places, Reason,
     Receipt, Record, Refused, SendCmd, Sent,
