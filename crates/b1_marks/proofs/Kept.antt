@@ -83,6 +83,7 @@ module _ {o : Opening} {s : State} {p : ℕ} {command : Option Command} {t : Sta
   start_fresh false (cmd.Reset limits) starts at = none_staged starts (at_own act.BeginDestroy at refl)
   start_fresh false (cmd.Destroy numbers) starts at = none_staged starts (at_own act.BeginDestroy at refl)
   start_fresh false cmd.Query starts at = tt
+  start_fresh false (cmd.Limit limits) starts at = tt
   start_fresh false (cmd.Release number) starts at = tt
   start_fresh false (cmd.SliceRelease offset) starts at = tt
   start_fresh false (cmd.Send c) starts at = tt
