@@ -3,6 +3,7 @@ pub mod Sends
 pub mod Stages
 pub mod Stamps
 pub mod Notices
+pub mod Apart
 pub mod Numbers
 pub mod References
 pub mod Bounds

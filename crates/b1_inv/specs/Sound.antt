@@ -8,6 +8,7 @@ use Rattle.b1_inv.specs.Sends.{SendsRight}
 use Rattle.b1_inv.specs.Stages.{StagesRight}
 use Rattle.b1_inv.specs.Stamps.{StampsRight}
 use Rattle.b1_inv.specs.Notices.{NoticesRight}
+use Rattle.b1_inv.specs.Apart.{OwnNoticesApart}
 use Rattle.b1_inv.specs.Numbers.{NumbersRight}
 use Rattle.b1_inv.specs.References.{FlightsRight, SlotsRight, ReferencesRight}
 use Rattle.b1_inv.specs.Bounds.{BoundsRight}
@@ -23,6 +24,7 @@ pub record IsSound (o : Opening) (s : State) : Type 0 where
   pub slots : SlotsRight s
   pub stamps : StampsRight s
   pub notices : NoticesRight s
+  pub apart : OwnNoticesApart s
   pub numbers : NumbersRight s
   pub flights : FlightsRight s
   pub references : ReferencesRight s

@@ -111,6 +111,7 @@ destroy_waits (cmd.Destroy numbers) is = refl
 destroy_waits (cmd.Reset limits) is = refl
 destroy_waits cmd.Disconnect is = refl
 destroy_waits cmd.Query is = refl
+destroy_waits (cmd.Limit limits) is = refl
 destroy_waits (cmd.Release number) is = refl
 destroy_waits (cmd.SliceRelease offset) is = refl
 destroy_waits (cmd.Send c) is = refl

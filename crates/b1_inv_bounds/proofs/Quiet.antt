@@ -134,6 +134,7 @@ is_attach action = false
 first_no_attach : (command : Command) → is_attach (first_action command) ≡ false
 first_no_attach cmd.Disconnect = refl
 first_no_attach cmd.Query = refl
+first_no_attach (cmd.Limit limits) = refl
 first_no_attach (cmd.Reset limits) = refl
 first_no_attach (cmd.Release number) = refl
 first_no_attach (cmd.Destroy numbers) = refl

@@ -160,6 +160,7 @@ module _ {o : Opening} {s : State} {p : ℕ} {command : Option Command} {t : Sta
     first_goes : (c : Command) → step.at ≡ peer_of k.e.me (first_action c) → Keeps_on c Starting [] (first_action c)
     first_goes cmd.Disconnect here = destroy_goes o step.local.memory k.e step.peer step.at node q up cmd.Disconnect
     first_goes cmd.Query here = local_goes o step.local.memory k.e step.peer step.at node q up cmd.Query
+    first_goes (cmd.Limit limits) here = local_goes o step.local.memory k.e step.peer step.at node q up (cmd.Limit limits)
     first_goes (cmd.Reset limits) here = destroy_goes o step.local.memory k.e step.peer step.at node q up (cmd.Reset limits)
     first_goes (cmd.Release number) here = release_goes o step.local.memory k.e step.peer step.at node q up (cmd.Release number) (sound.numbers.numbered step.at step.peer step.is_peer) here
     first_goes (cmd.Destroy numbers) here = destroy_goes o step.local.memory k.e step.peer step.at node q up (cmd.Destroy numbers)

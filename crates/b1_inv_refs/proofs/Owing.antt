@@ -119,6 +119,7 @@ module _ (o : Opening) (memory : Bool) (e : DriverPart) (x : PeerPart) (command 
   first_then : (c : Command) → c ≡ command → Then Starting (happens o memory e (record { command = command; phase = Starting }) (first_action c) x).0
   first_then cmd.Disconnect is = destroy_then (begin_refusal command x) (begin_serials command x)
   first_then cmd.Query is = inl refl
+  first_then (cmd.Limit limits) is = inl refl
   first_then (cmd.Reset limits) is = destroy_then (begin_refusal command x) (begin_serials command x)
   first_then (cmd.Release number) is = release_then (is_given (number_of command)) (held_node (number_of command) x.handles) (number_of command)
   first_then (cmd.Destroy numbers) is = destroy_then (begin_refusal command x) (begin_serials command x)

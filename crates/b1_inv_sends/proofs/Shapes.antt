@@ -212,6 +212,7 @@ module _ (t : State) where
       → TurnRight t command (started command (happens o memory e doing (first_action command) x).0)
   first_turn o memory e doing x cmd.Disconnect same is_peer made = destroy_turn cmd.Disconnect (begin_refusal doing.command x) (begin_serials doing.command x) x
   first_turn o memory e doing x cmd.Query same is_peer made = tt
+  first_turn o memory e doing x (cmd.Limit limits) same is_peer made = tt
   first_turn o memory e doing x (cmd.Reset limits) same is_peer made = destroy_turn (cmd.Reset limits) (begin_refusal doing.command x) (begin_serials doing.command x) x
   first_turn o memory e doing x (cmd.Release number) same is_peer made = release_turn (cmd.Release number) (released x (number_of doing.command))
   first_turn o memory e doing x (cmd.Destroy numbers) same is_peer made = destroy_turn (cmd.Destroy numbers) (begin_refusal doing.command x) (begin_serials doing.command x) x

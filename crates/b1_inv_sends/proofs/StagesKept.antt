@@ -57,6 +57,7 @@ opening_stages o = record {
 first_no_stage : (command : Command) (peer place : ℕ) → first_action command ≡ act.Stage peer place → ⊥
 first_no_stage cmd.Disconnect peer place is = cc is
 first_no_stage cmd.Query peer place is = cc is
+first_no_stage (cmd.Limit limits) peer place is = cc is
 first_no_stage (cmd.Reset limits) peer place is = cc is
 first_no_stage (cmd.Release number) peer place is = cc is
 first_no_stage (cmd.Destroy numbers) peer place is = cc is
@@ -72,6 +73,7 @@ start_no_stage false command peer place is = first_no_stage command peer place i
 first_no_commit : (command : Command) (peer place stamp : ℕ) → first_action command ≡ act.Commit peer place stamp → ⊥
 first_no_commit cmd.Disconnect peer place stamp is = cc is
 first_no_commit cmd.Query peer place stamp is = cc is
+first_no_commit (cmd.Limit limits) peer place stamp is = cc is
 first_no_commit (cmd.Reset limits) peer place stamp is = cc is
 first_no_commit (cmd.Release number) peer place stamp is = cc is
 first_no_commit (cmd.Destroy numbers) peer place stamp is = cc is

@@ -148,6 +148,7 @@ turn_waits d command begun index (Ends got) k = absurd k
 first_stops : (command : Command) (index : ℕ) → stops (first_action command) ≡ Some index → ⊥
 first_stops cmd.Disconnect index is = cc is
 first_stops cmd.Query index is = cc is
+first_stops (cmd.Limit limits) index is = cc is
 first_stops (cmd.Reset limits) index is = cc is
 first_stops (cmd.Release number) index is = cc is
 first_stops (cmd.Destroy numbers) index is = cc is

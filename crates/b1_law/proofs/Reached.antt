@@ -17,6 +17,7 @@ use Rattle.b1_inv_sends.proofs.SlotsKept.{opening_slots, slots_kept}
 use Rattle.b1_inv_notices.proofs.Begins.{notices_begin, stamps_begin}
 use Rattle.b1_inv_notices.proofs.NoticesLaw.{notices_kept}
 use Rattle.b1_inv_notices.proofs.StampsLaw.{stamps_kept}
+use Rattle.b1_inv_apart.proofs.Kept.{apart_begins, apart_kept}
 use Rattle.b1_inv_clocks.proofs.ClocksBegin.{clocks_begin}
 use Rattle.b1_inv_clocks.proofs.ClocksLaw.{clocks_kept}
 use Rattle.b1_inv_refs.proofs.Flying.{numbers_kept, flights_kept}
@@ -43,6 +44,7 @@ opening_sound o valid = record {
   slots = opening_slots o;
   stamps = stamps_begin o;
   notices = notices_begin o;
+  apart = apart_begins o (notices_begin o);
   numbers = numbers_opening o valid;
   flights = flights_opening o valid;
   references = references_opening o valid;
@@ -60,6 +62,7 @@ step_sound o s p command t sound step = record {
   slots = slots_kept sound step;
   stamps = stamps_kept sound step;
   notices = notices_kept sound step;
+  apart = apart_kept sound step (notices_kept sound step);
   numbers = numbers_kept sound step;
   flights = flights_kept sound step;
   references = references_kept sound step;

@@ -69,6 +69,7 @@ module _ (calls : List Call) (got : Answer) (shut : Bool) where
   by_command cmd.Await (inr (inr (is, ends))) = inr (refl, ends)
   by_command cmd.Disconnect well = inr (refl, well.0, well.1)
   by_command cmd.Query well = inr (refl, well.0, well.1)
+  by_command (cmd.Limit limits) well = inr (refl, well.0, well.1)
   by_command (cmd.Reset limits) well = inr (refl, well.0, well.1)
   by_command (cmd.Release number) well = inr (refl, well.0, well.1)
   by_command (cmd.Destroy numbers) well = inr (refl, well.0, well.1)

@@ -50,6 +50,7 @@ pub refused_well : (shut : Bool) (command : Command) → is_await command ≡ fa
 refused_well shut cmd.Await plain b = absurd (cc plain)
 refused_well shut cmd.Disconnect plain b = (refl, tt)
 refused_well shut cmd.Query plain b = (refl, tt)
+refused_well shut (cmd.Limit limits) plain b = (refl, tt)
 refused_well shut (cmd.Reset limits) plain b = (refl, tt)
 refused_well shut (cmd.Release number) plain b = (refl, tt)
 refused_well shut (cmd.Destroy numbers) plain b = (refl, tt)

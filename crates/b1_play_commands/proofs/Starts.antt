@@ -2,6 +2,7 @@
 use Rattle.std.proofs.Common.{◌≡◌, refl, sym, ap, ◌∙◌, inl, inr, subst, ℕ, Bool, true, false, cond, List, [], ◌∷◌, filter_map, find, Option, Some, None, Ok, Err, Result, option_map}
 use Rattle.std.specs.List.{cons_option}
 use Rattle.std.proofs.lemmas.Bool.{cond_both}
+use Rattle.b1_model.specs.declared.naming.Limits.{Limits}
 use Rattle.b1_model.specs.declared.naming.Opening.{Opening}
 use Rattle.b1_model.specs.declared.answers.Answer.TheVariants as answer
 use Rattle.b1_model.specs.declared.answers.Front.{Front}
@@ -95,6 +96,10 @@ query_well : (shut : Bool) (x : PeerPart) → EndsWell shut cmd.Query (local_ans
 query_well true x = (refl, tt)
 query_well false x = (refl, tt)
 
+limit_well : (shut : Bool) (limits : Limits) (x : PeerPart) → EndsWell shut (cmd.Limit limits) (local_answer shut (cmd.Limit limits) x)
+limit_well true limits x = (refl, tt)
+limit_well false limits x = (refl, tt)
+
 slice_well : (shut : Bool) (offset : ℕ) (x : PeerPart) → EndsWell shut (cmd.SliceRelease offset) (local_answer shut (cmd.SliceRelease offset) x)
 slice_well true offset x = (refl, tt)
 slice_well false offset x = cond_both (is_received offset x.slices) answer.Done (refused_at (reason.Unknown offset) None) (EndsWell false (cmd.SliceRelease offset)) (λ is. (refl, tt)) (λ is. (refl, tt))
@@ -103,6 +108,7 @@ shut_well : (command : Command) → EndsWell true command (refused_at reason.Shu
 shut_well cmd.Await = inr (inr (refl, refl))
 shut_well cmd.Disconnect = (refl, tt)
 shut_well cmd.Query = (refl, tt)
+shut_well (cmd.Limit limits) = (refl, tt)
 shut_well (cmd.Reset limits) = (refl, tt)
 shut_well (cmd.Release number) = (refl, tt)
 shut_well (cmd.Destroy numbers) = (refl, tt)
@@ -114,6 +120,7 @@ module _ (o : Opening) (memory : Bool) (e : DriverPart) (doing : Doing) (x : Pee
   first_fits : (command : Command) → doing.command ≡ command → TurnFits e.shut command (started command (happens o memory e doing (first_action command) x).0)
   first_fits cmd.Disconnect same = destroy_fits e.shut cmd.Disconnect (begin_refusal doing.command x) (begin_serials doing.command x) x tt (λ taken none. refl)
   first_fits cmd.Query same = subst (λ c. EndsWell e.shut cmd.Query (local_answer e.shut c x)) (sym same) (query_well e.shut x)
+  first_fits (cmd.Limit limits) same = subst (λ c. EndsWell e.shut (cmd.Limit limits) (local_answer e.shut c x)) (sym same) (limit_well e.shut limits x)
   first_fits (cmd.Reset limits) same = destroy_fits e.shut (cmd.Reset limits) (begin_refusal doing.command x) (begin_serials doing.command x) x tt (λ taken none. refl)
   first_fits (cmd.Release number) same = release_fits e.shut number (released x (number_of doing.command))
   first_fits (cmd.Destroy numbers) same =

@@ -174,6 +174,7 @@ module _ (o : Opening) (memory : Bool) (e : DriverPart) (doing : Doing) (x befor
   start_knows true command at same is none owes = plain_at Starting act.Local at is refl none tt
   start_knows false cmd.Disconnect at same is none owes = plain_at Starting act.BeginDestroy at is refl none (destroy_plain (begin_refusal doing.command x) (begin_serials doing.command x) x)
   start_knows false cmd.Query at same is none owes = plain_at Starting act.Local at is refl none tt
+  start_knows false (cmd.Limit limits) at same is none owes = plain_at Starting act.Local at is refl none tt
   start_knows false (cmd.Reset limits) at same is none owes = plain_at Starting act.BeginDestroy at is refl none (destroy_plain (begin_refusal doing.command x) (begin_serials doing.command x) x)
   start_knows false (cmd.Release number) at same is none owes = plain_at Starting act.Release at is refl none (release_plain (released x (number_of doing.command)))
     where

@@ -39,6 +39,7 @@ first_own : (me : ℕ) (shut : Bool) (c : Command) → peer_of me (if shut then 
 first_own me true c = refl
 first_own me false cmd.Disconnect = refl
 first_own me false cmd.Query = refl
+first_own me false (cmd.Limit limits) = refl
 first_own me false (cmd.Reset limits) = refl
 first_own me false (cmd.Release number) = refl
 first_own me false (cmd.Destroy numbers) = refl

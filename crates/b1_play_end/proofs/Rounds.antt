@@ -31,6 +31,7 @@ resolved_await : (c : Command) (calls : List Call) → resolved c calls ≡ cmd.
 resolved_await cmd.Await calls is = refl
 resolved_await cmd.Disconnect calls is = absurd (cc is)
 resolved_await cmd.Query calls is = absurd (cc is)
+resolved_await (cmd.Limit limits) calls is = absurd (cc is)
 resolved_await (cmd.Reset limits) calls is = absurd (cc is)
 resolved_await (cmd.Release number) calls is = absurd (cc is)
 resolved_await (cmd.Destroy numbers) calls is = absurd (cc is)
@@ -78,6 +79,7 @@ attempt_shut command shut (out.Flush dead) await = by_command command await
     by_command cmd.Await await = or_false shut
     by_command cmd.Disconnect await = absurd (cc await)
     by_command cmd.Query await = absurd (cc await)
+    by_command (cmd.Limit limits) await = absurd (cc await)
     by_command (cmd.Reset limits) await = absurd (cc await)
     by_command (cmd.Release number) await = absurd (cc await)
     by_command (cmd.Destroy numbers) await = absurd (cc await)

@@ -30,6 +30,7 @@ await_is : (command : Command) → is_await command ≡ true → command ≡ cmd
 await_is cmd.Await is = refl
 await_is cmd.Disconnect is = absurd (cc is)
 await_is cmd.Query is = absurd (cc is)
+await_is (cmd.Limit limits) is = absurd (cc is)
 await_is (cmd.Reset limits) is = absurd (cc is)
 await_is (cmd.Release number) is = absurd (cc is)
 await_is (cmd.Destroy numbers) is = absurd (cc is)

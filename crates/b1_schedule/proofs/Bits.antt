@@ -31,6 +31,7 @@ use Rattle.b1_schedule.proofs.Backward.{TurnAgrees, from_staging}
 as_it_is : (command : Command) → is_await command ≡ false → as_call command ≡ command
 as_it_is cmd.Disconnect plain = refl
 as_it_is cmd.Query plain = refl
+as_it_is (cmd.Limit limits) plain = refl
 as_it_is (cmd.Reset limits) plain = refl
 as_it_is (cmd.Release number) plain = refl
 as_it_is (cmd.Destroy numbers) plain = refl
@@ -160,6 +161,7 @@ module _ (m : Shortage) (o : Opening) (d : DriverPart) (doing : Doing) (x : Peer
   bit_of_start false (cmd.Send c) memory same may h = bit_of_begin (send_of doing.command) (send_refusal x (send_of doing.command)) memory (sym (ap is_await same)) may h
   bit_of_start false cmd.Disconnect memory same may h = absurd (cc may)
   bit_of_start false cmd.Query memory same may h = absurd (cc may)
+  bit_of_start false (cmd.Limit limits) memory same may h = absurd (cc may)
   bit_of_start false (cmd.Reset limits) memory same may h = absurd (cc may)
   bit_of_start false (cmd.Release number) memory same may h = absurd (cc may)
   bit_of_start false (cmd.Destroy numbers) memory same may h = absurd (cc may)

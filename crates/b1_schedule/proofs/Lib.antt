@@ -5,3 +5,4 @@ pub mod Bits
 pub mod Steps
 pub mod States
 pub mod Moves
+pub mod Ends

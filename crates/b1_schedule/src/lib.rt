@@ -4,5 +4,5 @@
 mod laws;
 mod playing;
 
-pub use laws::{a_record_shows_its_shortage, a_step_shows_its_shortage};
+pub use laws::{a_record_shows_its_shortage, a_schedule_has_one_end, a_step_shows_its_shortage};
 pub use playing::{a_play_ends, passes_are_played, rounds_are_played, turns_are_played};

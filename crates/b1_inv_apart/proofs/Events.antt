@@ -23,7 +23,7 @@ use Rattle.b1_step.specs.Rights.{Has}
 use Rattle.b1_step.proofs.Lists.{has_map}
 use Rattle.b1_step.proofs.Queues.{put_has, without_has}
 use Rattle.b1_step.proofs.Changed.{changes}
-use Rattle.b1_marks.specs.Apart.{is_own_notice, is_own_staged, Apart, AllApart}
+use Rattle.b1_inv_apart.proofs.Entries.{is_own_notice, is_own_staged, Apart, AllApart}
 use Rattle.b1_inv_tools.proofs.Received.{recv_rests}
 
 apart_turned : (f g : Key × Entry) → Apart f g → Apart g f

@@ -2,8 +2,8 @@ use Rattle.std.proofs.Common.{sym, ap, ◌∙◌}
 use Rattle.b1_model.specs.MachineStep.{record_of_state}
 use Rattle.b1_schedule.specs.Schedule.{Finished, Stalled, Playing}
 use Rattle.b1_schedule.specs.Shortage.{shortage_of, no_shortage}
-use Rattle.b1_ends.proofs.Moves.{finished, stalled, one_end, apart}
-use Rattle.b1_ends.proofs.laws.a_schedule_has_one_end.Goals as goal
+use Rattle.b1_schedule.proofs.Ends.{finished, stalled, one_end, apart}
+use Rattle.b1_schedule.proofs.laws.a_schedule_has_one_end.Goals as goal
 
 pub returns-clause-one : goal.returns-clause-one
 returns-clause-one c = λ o lists turns r q play other same.

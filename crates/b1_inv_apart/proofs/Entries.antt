@@ -1,11 +1,10 @@
--- Staged own notices in one queue have places of their own.
-use Rattle.std.specs.Prelude.{◌≡◌, ◌≢◌, ⊤, ℕ, Bool, true, false, ◌&&◌, List, [], ◌∷◌}
+-- Words of the proof: staged own notices in one queue, entry by entry.
+use Rattle.std.specs.Prelude.{◌≡◌, ◌≢◌, ⊤, Bool, true, false, ◌&&◌, List, [], ◌∷◌}
 use Rattle.b1_model.specs.declared.naming.Key.{Key}
 use Rattle.b1_model.specs.declared.entries.Entry.{Entry}
 use Rattle.b1_model.specs.declared.entries.Entry.TheVariants.{Message, OwnNotice, ForeignNotice, ReleaseNotice}
-use Rattle.b1_model.specs.MachineParts.{PeerPart, State, is_staged}
+use Rattle.b1_model.specs.MachineParts.{is_staged}
 use Rattle.b1_step.specs.Rights.{Has}
-use Rattle.b1_inv.specs.Words.{IsPeer}
 
 -- the destroy notice of an own node
 abbrev pub is_own_notice : Entry → Bool
@@ -26,7 +25,3 @@ Apart f g = is_own_staged f ≡ true → is_own_staged g ≡ true → f.0.index 
 abbrev pub AllApart : List (Key × Entry) → Type 0
 AllApart [] = ⊤
 AllApart (f ∷ rest) = ((g : Key × Entry) → Has rest g → Apart f g) × AllApart rest
-
--- the same of every queue
-abbrev pub OwnApart : State → Type 0
-OwnApart s = (q : ℕ) (x : PeerPart) → IsPeer s q x → AllApart x.queue
