@@ -3,6 +3,7 @@
 ghost use Rattle.std.specs.Prelude.{◌≡◌, ◌<◌, ◌&&◌, ◌↔◌, not, Some, IsTrue, length, slice_get};
 ghost use Rattle.b1_model.specs.Ledger.{message as message_with, is_before, is_accepted};
 ghost use Rattle.b1_model.specs.Legal.{is_above, is_message, is_message_in, is_notice, is_notice_of};
+ghost use Rattle.b1_judge_facts.specs.Walks.{at};
 ghost use Rattle.b1_judge_facts.specs.Facts.{doomed};
 ghost use Rattle.b1_judge.specs.Candidates.{key_at, is_under, is_passed, is_beyond, HasCandidate, HasCandidateOf, HasMessageOf, HasNoticeOf, IsAlong};
 
@@ -90,7 +91,7 @@ fn is_message_at<'a>(
 ) -> bool
     requires along { IsAlong walk.now facts.now }
     requires message { message_with walk.now.wires walk.now.rec stamp.now.stamp stamp.now.origin ≡ Some message.now }
-    ensures { result ≡ (is_message walk.now.wires walk.now.rec walk.now.peer walk.now.call (key_at stamp.now index) && is_under (key_at stamp.now index) limit) }
+    ensures { result ≡ (at is_message walk.now (key_at stamp.now index) && is_under (key_at stamp.now index) limit) }
 {
     is_in_reach(stamp, index, walk.last_key(), limit) && is_open(facts, walk, message, stamp, index)
 }
@@ -135,7 +136,7 @@ fn is_open<'a>(
     index: usize,
 ) -> bool
     requires { IsAlong walk.now facts.now }
-    ensures { result ≡ is_message_in walk.now.wires walk.now.rec walk.now.peer walk.now.call (key_at stamp.now index) (Some message.now) }
+    ensures { result ≡ at is_message_in walk.now (key_at stamp.now index) (Some message.now) }
 {
     if !is_accepted_at(message.places(), index) {
         return false;
@@ -182,14 +183,14 @@ fn is_notice_at(
 ) -> bool
     requires index { index < length nodes.now }
     requires nodes { nodes.now ≡ doomed walk.now.wires walk.now.rec stamp.now.stamp stamp.now.origin }
-    ensures { result ≡ (is_notice walk.now.wires walk.now.rec walk.now.peer walk.now.call (key_at stamp.now index) && is_under (key_at stamp.now index) limit) }
+    ensures { result ≡ (at is_notice walk.now (key_at stamp.now index) && is_under (key_at stamp.now index) limit) }
 {
     is_in_reach(stamp, index, walk.last_key(), limit) && is_concerned(walk, nodes[index])
 }
 
 /// Whether the end of a node concerns the peer: an own node of the present epoch, or a foreign one that it holds.
 fn is_concerned(walk: &Walk, node: Option<NodeId>) -> bool
-    ensures { result ≡ is_notice_of walk.now.wires walk.now.rec walk.now.peer walk.now.call node }
+    ensures { result ≡ at is_notice_of walk.now node }
 {
     match node {
         Some(node) if node.owner == walk.peer() => node.epoch == walk.epoch(),

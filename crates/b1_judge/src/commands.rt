@@ -15,6 +15,7 @@ pub(crate) fn is_resolved(command: &Command, before: &[Call], made: &Command) ->
         (Command::Disconnect, Command::Disconnect) => true,
         (Command::Query, Command::Query) => true,
         (Command::Reset { limits }, Command::Reset { limits: found }) => limits == found,
+        (Command::Limit { limits }, Command::Limit { limits: found }) => limits == found,
         (Command::Release { number }, Command::Release { number: found }) => {
             *found == resolve_handle(before, *number)
         }
@@ -70,6 +71,7 @@ pub(crate) fn is_of_kind(command: &Command, answer: &Answer) -> bool
         (Command::Query, Answer::Info { .. }) => true,
         (Command::Release { .. }, Answer::Done) => true,
         (Command::SliceRelease { .. }, Answer::Done) => true,
+        (Command::Limit { .. }, Answer::Done) => true,
         _ => false,
     }
 }

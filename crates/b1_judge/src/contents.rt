@@ -5,6 +5,7 @@ ghost use Rattle.b1_model.specs.declared.answers.Answer.TheVariants.{Got};
 ghost use Rattle.b1_model.specs.Names.{calls_of};
 ghost use Rattle.b1_model.specs.Ledger.{to_at};
 ghost use Rattle.b1_model.specs.Legal.{KeepsContents, IsWhatWasSent};
+ghost use Rattle.b1_judge_facts.specs.Walks.{holds_at};
 ghost use Rattle.b1_judge_facts.specs.Facts.{CarriesNone};
 ghost use Rattle.b1_judge.specs.Candidates.{IsAlong};
 ghost use Rattle.b1_judge.specs.Contents.{HasSent};
@@ -53,7 +54,7 @@ fn keeps_contents<'a>(
 ) -> Result<bool, AllocError>
     requires along { IsAlong walk.now facts.now }
     requires call { slice_get (calls_of walk.now.rec walk.now.peer) walk.now.call ≡ Some call.now }
-    ensures { IfOk result (λ b. IsTrue b ↔ KeepsContents walk.now.wires walk.now.rec walk.now.peer walk.now.call) }
+    ensures { IfOk result (λ b. IsTrue b ↔ holds_at KeepsContents walk.now) }
 {
     match &call.answer {
         Answer::Got(receipt) => has_receipt(alloc, facts, walk, receipt),
@@ -70,7 +71,7 @@ fn has_receipt<'a>(
 ) -> Result<bool, AllocError>
     requires along { IsAlong walk.now facts.now }
     requires none { CarriesNone walk.now.rec walk.now.peer walk.now.call }
-    ensures { IfOk result (λ b. IsTrue b ↔ IsWhatWasSent walk.now.wires walk.now.rec walk.now.peer walk.now.call (Got receipt.now)) }
+    ensures { IfOk result (λ b. IsTrue b ↔ holds_at IsWhatWasSent walk.now (Got receipt.now)) }
 {
     match receipt {
         Receipt::Message {

@@ -6,6 +6,7 @@ ghost use Rattle.b1_model.specs.declared.answers.Answer.TheVariants.{Got};
 ghost use Rattle.b1_model.specs.Legal.{KeepsPrefix, IsNextReceipt, IsNextMessage, IsNextNotice, IsLeast};
 ghost use Rattle.b1_judge.specs.Candidates.{IsAlong};
 ghost use Rattle.b1_judge.specs.Frame.{IsCall};
+ghost use Rattle.b1_judge_facts.specs.Walks.{holds_at};
 
 use crate::candidates::has_candidate;
 use crate::frame::Part;
@@ -46,7 +47,7 @@ impl<'f, 'a> Part for Prefix<'f, 'a> {
 fn keeps_prefix<'a>(facts: &Facts<'a>, walk: &Walk<'a>, call: &Call) -> bool
     requires along { IsAlong walk.now facts.now }
     requires call { slice_get (calls_of walk.now.rec walk.now.peer) walk.now.call ≡ Some call.now }
-    ensures { IsTrue result ↔ KeepsPrefix walk.now.wires walk.now.rec walk.now.peer walk.now.call }
+    ensures { IsTrue result ↔ holds_at KeepsPrefix walk.now }
 {
     is_next_answer(facts, walk, &call.answer)
 }
@@ -54,7 +55,7 @@ fn keeps_prefix<'a>(facts: &Facts<'a>, walk: &Walk<'a>, call: &Call) -> bool
 /// Whether an answer, if it is a receipt, is the next entry.
 fn is_next_answer<'a>(facts: &Facts<'a>, walk: &Walk<'a>, answer: &Answer) -> bool
     requires { IsAlong walk.now facts.now }
-    ensures { IsTrue result ↔ IsNextReceipt walk.now.wires walk.now.rec walk.now.peer walk.now.call answer.now }
+    ensures { IsTrue result ↔ holds_at IsNextReceipt walk.now answer.now }
 {
     match answer {
         Answer::Got(receipt) => is_next_receipt(facts, walk, receipt),
@@ -65,7 +66,7 @@ fn is_next_answer<'a>(facts: &Facts<'a>, walk: &Walk<'a>, answer: &Answer) -> bo
 /// Whether a receipt, if it is no release notice, is the next entry.
 fn is_next_receipt<'a>(facts: &Facts<'a>, walk: &Walk<'a>, receipt: &Receipt) -> bool
     requires { IsAlong walk.now facts.now }
-    ensures { IsTrue result ↔ IsNextReceipt walk.now.wires walk.now.rec walk.now.peer walk.now.call (Got receipt.now) }
+    ensures { IsTrue result ↔ holds_at IsNextReceipt walk.now (Got receipt.now) }
 {
     match receipt {
         Receipt::Message { key, .. } => is_next_message(facts, walk, key),
@@ -77,7 +78,7 @@ fn is_next_receipt<'a>(facts: &Facts<'a>, walk: &Walk<'a>, receipt: &Receipt) ->
 /// Whether the next entry is the message with a key.
 fn is_next_message<'a>(facts: &Facts<'a>, walk: &Walk<'a>, key: &Key) -> bool
     requires { IsAlong walk.now facts.now }
-    ensures { IsTrue result ↔ IsNextMessage walk.now.wires walk.now.rec walk.now.peer walk.now.call key.now }
+    ensures { IsTrue result ↔ holds_at IsNextMessage walk.now key.now }
 {
     walk.is_message(facts, key) && is_least(facts, walk, key)
 }
@@ -85,7 +86,7 @@ fn is_next_message<'a>(facts: &Facts<'a>, walk: &Walk<'a>, key: &Key) -> bool
 /// Whether the next entry is the destroy notice with a key.
 fn is_next_notice<'a>(facts: &Facts<'a>, walk: &Walk<'a>, key: &Key) -> bool
     requires { IsAlong walk.now facts.now }
-    ensures { IsTrue result ↔ IsNextNotice walk.now.wires walk.now.rec walk.now.peer walk.now.call key.now }
+    ensures { IsTrue result ↔ holds_at IsNextNotice walk.now key.now }
 {
     walk.is_notice(facts, key) && is_least(facts, walk, key)
 }
@@ -93,7 +94,7 @@ fn is_next_notice<'a>(facts: &Facts<'a>, walk: &Walk<'a>, key: &Key) -> bool
 /// Whether no entry with a smaller key may be received.
 fn is_least<'a>(facts: &Facts<'a>, walk: &Walk<'a>, key: &Key) -> bool
     requires { IsAlong walk.now facts.now }
-    ensures { IsTrue result ↔ IsLeast walk.now.wires walk.now.rec walk.now.peer walk.now.call key.now }
+    ensures { IsTrue result ↔ holds_at IsLeast walk.now key.now }
 {
     !has_candidate(facts, walk, Some(*key))
 }

@@ -4,3 +4,5 @@ pub mod Standing
 pub mod Kept
 pub mod Start
 pub mod Gathering
+pub mod Walks
+pub mod Orders

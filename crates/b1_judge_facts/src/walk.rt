@@ -3,6 +3,7 @@ ghost use Rattle.std.specs.Option.{option_copied};
 ghost use Rattle.b1_model.specs.Names.{made, epoch_at, number_at, calls_of};
 ghost use Rattle.b1_model.specs.Ledger.{is_below, line_number, table, doomed_at, is_late};
 ghost use Rattle.b1_model.specs.Legal.{last_key, is_above, is_open_to, is_message_in, is_message, is_notice_of, is_notice, arrives, arrived, handle_number, own_number_of, notice_number};
+ghost use Rattle.b1_judge_facts.specs.Walks.{at, is_late_at, doomed_node};
 ghost use Rattle.b1_judge_facts.specs.Facts.{CarriesNone};
 
 use crate::facts::Facts;
@@ -13,12 +14,9 @@ use crate::standing::Standing;
 use crate::start::begin;
 use crate::table::Table;
 use b1_ledger::keys_are_ordered_as_in_queues;
-use b1_model::{Key, Nums, Opening, Record, key_cmp};
+use b1_model::{INVALID, Key, Nums, Opening, Record, key_cmp};
 use std::alloc::{AllocError, Global};
 use std::marker::Model;
-
-/// 2^64 - 1, the number of a handle that is gone.
-const INVALID: u64 = u64::MAX;
 
 /// Where a walk along the calls of one peer stands: what the peer has made, holds and has received before its next
 /// call.
@@ -118,7 +116,7 @@ impl<'a> Walk<'a> {
 
     /// The number of a node's line in the peer's table.
     pub fn line_number(&self, node: &NodeId) -> Option<u64>
-        ensures { result ≡ line_number node.now (table self.now.wires self.now.rec self.now.peer self.now.call).lines }
+        ensures { result ≡ line_number node.now (at table self.now).lines }
     {
         self.standing.table.number(node)
     }
@@ -126,7 +124,7 @@ impl<'a> Walk<'a> {
     /// The own number of the peer's node at a place.
     pub fn number_at(&self, serial: u64) -> Option<u64>
         requires { CarriesNone self.now.rec self.now.peer self.now.call }
-        ensures { result ≡ number_at (made self.now.wires self.now.rec self.now.peer self.now.call) serial }
+        ensures { result ≡ number_at (at made self.now) serial }
     {
         self.standing.names.number_at(serial)
     }
@@ -134,7 +132,7 @@ impl<'a> Walk<'a> {
     /// The own number of a node of the peer.
     pub fn own_number(&self, node: Option<NodeId>) -> Option<u64>
         requires { CarriesNone self.now.rec self.now.peer self.now.call }
-        ensures { result ≡ own_number_of (made self.now.wires self.now.rec self.now.peer self.now.call) node }
+        ensures { result ≡ own_number_of (at made self.now) node }
     {
         match node {
             Some(node) => self.number_at(node.serial),
@@ -146,7 +144,7 @@ impl<'a> Walk<'a> {
     pub fn is_message(&self, facts: &Facts<'a>, key: &Key) -> bool
         requires wires { self.now.wires ≡ facts.now.wires }
         requires rec { self.now.rec ≡ facts.now.rec }
-        ensures { result ≡ is_message self.now.wires self.now.rec self.now.peer self.now.call key.now }
+        ensures { result ≡ at is_message self.now key.now }
     {
         is_above(key, self.last_key())
             && self.is_message_in(facts, key, facts.message(key.stamp, key.origin))
@@ -156,7 +154,7 @@ impl<'a> Walk<'a> {
     fn is_message_in(&self, facts: &Facts<'a>, key: &Key, message: Option<&Message<'a>>) -> bool
         requires wires { self.now.wires ≡ facts.now.wires }
         requires rec { self.now.rec ≡ facts.now.rec }
-        ensures { result ≡ is_message_in self.now.wires self.now.rec self.now.peer self.now.call key.now (option_copied message.entry) }
+        ensures { result ≡ at is_message_in self.now key.now (option_copied message.entry) }
     {
         match message {
             Some(message) => {
@@ -171,7 +169,7 @@ impl<'a> Walk<'a> {
     fn is_open_to(&self, facts: &Facts<'a>, key: &Key, node: Option<NodeId>) -> bool
         requires wires { self.now.wires ≡ facts.now.wires }
         requires rec { self.now.rec ≡ facts.now.rec }
-        ensures { result ≡ is_open_to self.now.wires self.now.rec self.now.peer self.now.call key.now node }
+        ensures { result ≡ at is_open_to self.now key.now node }
     {
         match node {
             Some(node) => node.epoch == self.epoch() && !facts.is_late(&node, key),
@@ -183,14 +181,14 @@ impl<'a> Walk<'a> {
     pub fn is_notice(&self, facts: &Facts<'a>, key: &Key) -> bool
         requires wires { self.now.wires ≡ facts.now.wires }
         requires rec { self.now.rec ≡ facts.now.rec }
-        ensures { result ≡ is_notice self.now.wires self.now.rec self.now.peer self.now.call key.now }
+        ensures { result ≡ at is_notice self.now key.now }
     {
         is_above(key, self.last_key()) && self.is_notice_of(facts.doomed_at(key))
     }
 
     /// Whether the end of a node concerns the peer: an own node of the present epoch, or a foreign one that it holds.
     fn is_notice_of(&self, node: Option<NodeId>) -> bool
-        ensures { result ≡ is_notice_of self.now.wires self.now.rec self.now.peer self.now.call node }
+        ensures { result ≡ at is_notice_of self.now node }
     {
         match node {
             Some(node) => {
@@ -209,7 +207,7 @@ impl<'a> Walk<'a> {
         requires wires { self.now.wires ≡ facts.now.wires }
         requires rec { self.now.rec ≡ facts.now.rec }
         requires none { CarriesNone self.now.rec self.now.peer self.now.call }
-        ensures { result ≡ notice_number self.now.peer (made self.now.wires self.now.rec self.now.peer self.now.call) (table self.now.wires self.now.rec self.now.peer self.now.call) (doomed_at self.now.wires self.now.rec key.now) }
+        ensures { result ≡ notice_number self.now.peer (at made self.now) (at table self.now) (doomed_node self.now key.now) }
     {
         let node = facts.doomed_at(key)?;
         if node.owner == self.peer {
@@ -231,7 +229,7 @@ impl<'a> Walk<'a> {
         requires wires { self.now.wires ≡ facts.now.wires }
         requires rec { self.now.rec ≡ facts.now.rec }
         requires none { CarriesNone self.now.rec self.now.peer self.now.call }
-        ensures { IfOk result (λ numbers. numbers ≡ arrived (λ x. is_late self.now.wires self.now.rec x key.now) self.now.peer (made self.now.wires self.now.rec self.now.peer self.now.call) carried.now (table self.now.wires self.now.rec self.now.peer self.now.call)) }
+        ensures { IfOk result (λ numbers. numbers ≡ arrived (is_late_at self.now key.now) self.now.peer (at made self.now) carried.now (at table self.now)) }
     {
         let mut table = self.table(alloc)?;
         let mut numbers = Vec::with_capacity(alloc, carried.len())?;
@@ -245,7 +243,7 @@ impl<'a> Walk<'a> {
 
     /// A copy of the peer's table. An error is want of memory.
     fn table(&self, alloc: Global) -> Result<Table, AllocError>
-        ensures { IfOk result (λ t. t ≡ table self.now.wires self.now.rec self.now.peer self.now.call) }
+        ensures { IfOk result (λ t. t ≡ at table self.now) }
     {
         self.standing.table.copy(alloc)
     }
@@ -255,7 +253,7 @@ impl<'a> Walk<'a> {
         requires wires { self.now.wires ≡ facts.now.wires }
         requires rec { self.now.rec ≡ facts.now.rec }
         requires none { CarriesNone self.now.rec self.now.peer self.now.call }
-        ensures { result ≡ arrives (λ x. is_late self.now.wires self.now.rec x key.now) self.now.peer (made self.now.wires self.now.rec self.now.peer self.now.call) table.now node }
+        ensures { result ≡ arrives (is_late_at self.now key.now) self.now.peer (at made self.now) table.now node }
     {
         match node {
             Some(node) => {
@@ -272,7 +270,7 @@ impl<'a> Walk<'a> {
     /// The number by which the peer gets to know a node, by its table at that slot.
     fn handle_number(&self, table: &Table, node: &NodeId) -> u64
         requires none { CarriesNone self.now.rec self.now.peer self.now.call }
-        ensures { result ≡ handle_number self.now.peer (made self.now.wires self.now.rec self.now.peer self.now.call) table.now node.now }
+        ensures { result ≡ handle_number self.now.peer (at made self.now) table.now node.now }
     {
         if node.owner == self.peer {
             self.number_at(node.serial).unwrap_or(INVALID)
