@@ -1,6 +1,6 @@
 //! Commands with their references resolved, and answers of their kind.
 
-ghost use Rattle.std.specs.Prelude.{◌≡◌, ℕ, ◌↔◌, map, is_none, IsTrue};
+ghost use Rattle.std.specs.Prelude.{◌≡◌, ◌↔◌, map, is_none, IsTrue};
 ghost use Rattle.std.specs.List.{list_any, list_all};
 ghost use Rattle.b1_model.specs.Script.{resolved, resolved_handle, fits, FitsPlaces, HasPlaces};
 

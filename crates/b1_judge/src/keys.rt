@@ -1,6 +1,6 @@
 //! The part that asks for even stamps, each given once.
 
-ghost use Rattle.std.specs.Prelude.{◌≡◌, ℕ, ◌<◌, ◌↔◌, length, IsTrue};
+ghost use Rattle.std.specs.Prelude.{◌<◌, ◌↔◌, length, IsTrue};
 ghost use Rattle.b1_model.specs.Names.{calls_of};
 ghost use Rattle.b1_model.specs.Legal.{KeepsKeys};
 ghost use Rattle.b1_judge.specs.Frame.{IsCall};

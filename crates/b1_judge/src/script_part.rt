@@ -1,6 +1,6 @@
 //! The part that asks for the script's commands.
 
-ghost use Rattle.std.specs.Prelude.{◌≡◌, ℕ, ◌≤◌, ◌↔◌, true, length, IsTrue};
+ghost use Rattle.std.specs.Prelude.{◌≡◌, ◌≤◌, ◌↔◌, true, length, IsTrue};
 ghost use Rattle.b1_model.specs.declared.commands.Command.TheVariants.{Recv};
 ghost use Rattle.b1_model.specs.Names.{calls_of};
 ghost use Rattle.b1_model.specs.Script.{KeepsScript, IsCallOf, is_receipt, ends_await as awaits};

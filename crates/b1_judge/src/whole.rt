@@ -1,7 +1,6 @@
 //! The part that asks that nothing is left to receive.
 
-ghost use Rattle.std.specs.Prelude.{◌≡◌, length, IfOk};
-ghost use Rattle.b1_model.specs.Names.{calls_of};
+ghost use Rattle.std.specs.Prelude.{length};
 ghost use Rattle.b1_model.specs.Legal.{HasNoNext};
 ghost use Rattle.b1_judge.specs.Frame.{IsEnd};
 

@@ -1,7 +1,7 @@
 ghost use Rattle.std.specs.Prelude.{◌≡◌, suc, ◌<◌, length, Option, IfOk};
 ghost use Rattle.std.specs.Option.{option_copied};
 ghost use Rattle.b1_model.specs.Names.{made, epoch_at, number_at, calls_of};
-ghost use Rattle.b1_model.specs.Ledger.{is_below, line_number, table, doomed_at, is_late};
+ghost use Rattle.b1_model.specs.Ledger.{is_below, line_number, table};
 ghost use Rattle.b1_model.specs.Legal.{last_key, is_above, is_open_to, is_message_in, is_message, is_notice_of, is_notice, arrives, arrived, handle_number, own_number_of, notice_number};
 ghost use Rattle.b1_judge_facts.specs.Walks.{at, is_late_at, doomed_node};
 ghost use Rattle.b1_judge_facts.specs.Facts.{CarriesNone};
