@@ -1,7 +1,6 @@
 -- What a quota that passes leaves room for, and what keeps a quota sound.
-use Rattle.std.proofs.Common.{◌≡◌, ◌==◌, ℕ, ◌+◌, ◌<◌, ◌≤◌, ◌^◌, length, take, get_or, [], ◌∷◌, Bool, true, false, ◌||◌, None, List, sym, subst, ap, ◌∙◌, arith, inl, inr}
+use Rattle.std.proofs.Common.{◌≡◌, ◌==◌, ℕ, ◌+◌, ◌<◌, ◌≤◌, ◌^◌, length, take, get_or, [], ◌∷◌, Bool, true, false, ◌||◌, List, sym, subst, ap, ◌∙◌, arith}
 use Rattle.std.specs.Prelude.{if◌then◌else◌}
-use Rattle.std.proofs.lemmas.Bool.{cases_Bool}
 use Rattle.std.specs.List.{list_any}
 use Rattle.std.proofs.lemmas.List.{take_more}
 use Rattle.std.proofs.lemmas.List.Folds.{list_any-append}
@@ -10,12 +9,11 @@ use Rattle.std.proofs.lemmas.Bool.Decides.{nat_tests}
 use Rattle.b1_model.specs.declared.answers.Quantity.{Quantity}
 use Rattle.b1_model.specs.declared.answers.Quantity.TheVariants.{Entries, Bytes, Handles}
 use Rattle.b1_model.specs.declared.entries.Charge.{Charge}
-use Rattle.b1_model.specs.declared.naming.Limits.{Limits}
-use Rattle.b1_model.specs.MachineTables.{limit_of, within_quota}
+use Rattle.b1_model.specs.MachineTables.{within_quota}
 use Rattle.b1_quota.specs.declared.accounts.Account.{Account}
-use Rattle.b1_quota.specs.Accounts.{amount_in, charged_to, own, others, total, with_charge, plus, minus, cleared, has_account, IsDistinct, IsSound}
-use Rattle.b1_quota.specs.Charges.{Charges, over}
-use Rattle.b1_quota.proofs.AccountLemmas.{own-others, own-le-total, charged_to-plus, charged_to-minus, charged_to-cleared, users_of-with_charge, users_of-cleared}
+use Rattle.b1_quota.specs.Accounts.{amount_in, charged_to, own, total, with_charge, plus, minus, cleared, has_account, IsDistinct, IsSound}
+use Rattle.b1_quota.specs.Charges.{Charges}
+use Rattle.b1_quota.proofs.AccountLemmas.{own-le-total, charged_to-plus, charged_to-minus, charged_to-cleared, users_of-with_charge, users_of-cleared}
 
 pub by_quantity : (P : Quantity → Type 0) → P Entries → P Bytes → P Handles → (what : Quantity) → P what
 by_quantity P e b h Entries = e

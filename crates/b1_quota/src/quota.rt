@@ -165,13 +165,13 @@ impl Quota {
     }
 
     /// Charges nobody anything, under new limits.
-    pub fn flush(&mut self, limits: Limits)
-        ensures flushed { self.new ≡ record { limits = limits; home = self.old.home; accounts = cleared self.old.accounts } }
+    pub fn flush(&mut self, new_limits: Limits)
+        ensures flushed { self.new ≡ record { limits = new_limits; home = self.old.home; accounts = cleared self.old.accounts } }
         ensures nothing_charged { (what : Quantities) (passes : ℕ → Bool) → charged_to what passes self.new.accounts ≡ 0 }
         ensures users { users_of self.new.accounts ≡ users_of self.old.accounts }
     {
         clear(&mut self.accounts);
-        self.limits = limits;
+        self.limits = new_limits;
     }
 }
 

@@ -1,5 +1,5 @@
-use Rattle.std.proofs.Common.{◌≡◌, ◌==◌, ◌+◌, ◌<◌, ◌^◌, true, ap, sym, subst, ◌∙◌, arith}
-use Rattle.b1_quota.specs.Accounts.{amount_in, total}
+use Rattle.std.proofs.Common.{◌≡◌, ◌==◌, ◌+◌, ◌<◌, ◌^◌, ap, sym, ◌∙◌, arith}
+use Rattle.b1_quota.specs.Accounts.{total}
 use Rattle.b1_quota.specs.Charges.{Charges}
 use Rattle.b1_quota.proofs.QuotaLemmas.{passes_room}
 use Rattle.b1_quota.proofs.quota.Quota.check.Goals as goal
