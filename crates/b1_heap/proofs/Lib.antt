@@ -4,4 +4,3 @@ pub mod Places
 pub mod Moves
 pub mod Changes
 pub mod Edits
-pub mod Numbered

@@ -4,8 +4,8 @@ ghost use Rattle.b1_queue.specs.Queue.{IsNewItem, IsNewKey, key_of, restamped, w
 ghost use Rattle.b1_heap.specs.Heap.{IsIndexed, IsIndexedHeap, in_key_order};
 
 use crate::sift::{settle, sift_down, sift_up};
-use b1_model::Key;
 use b1_cost::Steps;
+use b1_model::Key;
 use std::sync::ledger::{Blank, Ledger};
 
 // Where an item's cell is.

@@ -5,9 +5,9 @@ ghost use Rattle.b1_heap.specs.Depth.{IsDepth};
 ghost use Rattle.b1_heap.specs.Heap.{IsIndexedHeap, in_key_order};
 
 use crate::cells::{add_cell, find_cell, remove_cell, restamp_cell, take_root};
+use b1_cost::Steps;
 use b1_model::Key;
 use b1_queue::QueueKind;
-use b1_cost::Steps;
 use std::alloc::{AllocError, Global};
 use std::marker::Brand;
 use std::sync::ledger::{Blank, Ledger};

@@ -5,8 +5,8 @@ ghost use Rattle.b1_queue.specs.Queue.{is_before as stands_before};
 ghost use Rattle.b1_heap.specs.Heap.{AreApart, IsHeap, IsIndexed, parent};
 ghost use Rattle.b1_heap.specs.Sift.{IsLeastChild, MovesAt, RisesAt, SinksAt};
 
-use b1_model::{Key, key_cmp};
 use b1_cost::Steps;
+use b1_model::{Key, key_cmp};
 use std::sync::ledger::{Blank, Ledger};
 
 // Whether the first key stands before the second. It is the only comparison of keys, and takes a step.

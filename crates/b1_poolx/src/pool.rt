@@ -6,9 +6,9 @@ ghost use Rattle.b1_poolx.specs.Sizes.{free_count};
 
 use crate::changes::{cancel, release, take};
 use crate::sizes::{find, find_uncounted, last_length_of};
+use b1_cost::Steps;
 use b1_pool::places::publish_at;
 use b1_pool::{Full, Memory, NoSlice, PoolKind, Slice, SliceState};
-use b1_cost::Steps;
 use std::alloc::Global;
 use std::marker::Model;
 use std::sync::ledger::Ledger;

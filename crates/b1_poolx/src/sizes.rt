@@ -5,9 +5,9 @@ ghost use Rattle.std.specs.Vec.{vec_capacity};
 ghost use Rattle.b1_pool.specs.Slices.{is_before};
 ghost use Rattle.b1_poolx.specs.Sizes.{placed, without, IsBySize, last_length, first_long, AllBefore, NoneBefore, AllShorter, NoneShorter};
 
+use b1_cost::Steps;
 use b1_pool::Slice;
 use b1_pool::places::comes_before;
-use b1_cost::Steps;
 use std::marker::Brand;
 use std::sync::ledger::{Blank, Ledger};
 
