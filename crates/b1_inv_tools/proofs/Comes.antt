@@ -1,14 +1,12 @@
 -- The queue as a set: which entries an event brings, and that all others stood there before.
-use Rattle.std.proofs.Common.{◌≡◌, ◌≢◌, ◌⊎◌, refl, sym, ap, ◌∙◌, inl, inr, subst, ℕ, zero, suc, ◌+◌, max, Bool, true, false, cond, not, List, [], ◌∷◌, map, filter, drop, length, Option, Some, None}
+use Rattle.std.proofs.Common.{◌≡◌, ◌⊎◌, refl, ap, ◌∙◌, inl, inr, subst, ℕ, zero, suc, ◌+◌, max, Bool, true, false, not, List, [], ◌∷◌, map, filter, drop, length, Option, Some, None}
 use Rattle.std.specs.Prelude.{slice_get}
 use native.Mathlib.Omega.{arith}
 use Rattle.b1_model.specs.declared.naming.Key.{Key}
 use Rattle.b1_model.specs.declared.naming.NodeRef.{NodeRef}
 use Rattle.b1_model.specs.declared.naming.Opening.{Opening}
-use Rattle.b1_model.specs.declared.commands.Command.{Command}
 use Rattle.b1_model.specs.declared.parts.Attach.{Attach}
 use Rattle.b1_model.specs.declared.parts.Attach.TheVariants as attach
-use Rattle.b1_model.specs.declared.parts.Slot.{Slot}
 use Rattle.b1_model.specs.declared.parts.Slot.TheVariants as slot
 use Rattle.b1_model.specs.declared.entries.Entry.{Entry}
 use Rattle.b1_model.specs.declared.entries.Entry.TheVariants.{Message, OwnNotice, ForeignNotice, ReleaseNotice}
@@ -18,10 +16,10 @@ use Rattle.b1_model.specs.declared.events.Action.TheVariants as act
 use Rattle.b1_model.specs.declared.events.Doing.{Doing}
 use Rattle.b1_model.specs.MachineParts.{PeerPart, DriverPart, no_origin, is_release_notice}
 use Rattle.b1_model.specs.MachinePool.{slice_len, taken_offset}
-use Rattle.b1_model.specs.MachineTables.{put, without, is_stage, is_staged_notice}
+use Rattle.b1_model.specs.MachineTables.{without, is_stage, is_staged_notice}
 use Rattle.b1_model.specs.MachineSend.{find_stage, unstaged_by, attached_by, attach_answer, committed_by, with_slots, with_stamp, notices_committed}
-use Rattle.b1_model.specs.MachineReceive.{with_release_notice, is_released, dropped_refs, received_part}
-use Rattle.b1_model.specs.MachineDestroy.{with_own_notices, needs_notice, notice_by, with_foreign_notice, visited_from}
+use Rattle.b1_model.specs.MachineReceive.{with_release_notice, is_released, dropped_refs}
+use Rattle.b1_model.specs.MachineDestroy.{with_own_notices, needs_notice, notice_by, visited_from}
 use Rattle.b1_model.specs.MachineDriver.{node_of_place, send_of}
 use Rattle.b1_model.specs.MachineEvents.{happens, stage_by, destroy_by, begun_of, slots_at, user_of, doomed_of, begin_refusal, begin_serials}
 use Rattle.b1_step.specs.Rights.{Has}

@@ -1,28 +1,21 @@
 -- What a step leaves: the two parts that it changes, all other parts, and the nodes that were made.
-use Rattle.std.proofs.Common.{◌≡◌, ◌≢◌, ◌⊎◌, refl, sym, ap, ◌∙◌, inl, inr, subst, ℕ, suc, ◌+◌, ◌<◌, ◌≤◌, Bool, true, false, cond, List, [], ◌∷◌, ◌++◌, set, fold, zip, length, Option, Some, None, option_map}
+use Rattle.std.proofs.Common.{◌≡◌, ◌≢◌, ◌⊎◌, refl, sym, ap, ◌∙◌, inl, inr, subst, ℕ, Bool, true, false, Option, Some, None, option_map}
 use Rattle.std.specs.Prelude.{slice_get}
-use Rattle.std.proofs.lemmas.Bool.{cases_eq}
-use Rattle.std.proofs.lemmas.List.{length-set, length-append}
-use native.Mathlib.Omega.{arith}
-use Rattle.b1_model.specs.declared.naming.Key.{Key}
-use Rattle.b1_model.specs.declared.naming.NodeRef.{NodeRef}
 use Rattle.b1_model.specs.declared.naming.Opening.{Opening}
 use Rattle.b1_model.specs.declared.commands.Command.{Command}
 use Rattle.b1_model.specs.declared.answers.Answer.{Answer}
 use Rattle.b1_model.specs.declared.events.Action.{Action}
-use Rattle.b1_model.specs.declared.events.Outcome.{Outcome}
 use Rattle.b1_model.specs.declared.events.Phase.{Phase}
 use Rattle.b1_model.specs.declared.events.Phase.TheVariants.{Starting}
 use Rattle.b1_model.specs.declared.events.Doing.{Doing}
 use Rattle.b1_model.specs.MachineParts.{PeerPart, DriverPart, State}
 use Rattle.b1_model.specs.MachineDriver.{next_action, peer_of, Turn, Goes, Ends, turn}
-use Rattle.b1_model.specs.MachineTook.{ended, goes_by, is_done, answer_of, turned, with_facts, took_by, took}
+use Rattle.b1_model.specs.MachineTook.{goes_by, is_done, answer_of, turned, with_facts, took_by, took}
 use Rattle.b1_model.specs.MachineEvents.{happens}
-use Rattle.b1_model.specs.MachineStep.{LocalStep, Step, begun_by, begun, aimed, target, done_by, effect_by, effect}
-use Rattle.b1_step.specs.Fixed.{IsNumbered}
-use Rattle.b1_step.proofs.Lists.{read_same, read_other, set_cases}
+use Rattle.b1_model.specs.MachineStep.{Step, begun_by, begun, aimed, target, done_by, effect_by, effect}
+use Rattle.b1_step.proofs.Lists.{set_cases}
 use Rattle.b1_step.proofs.Locality.{own_driver, other_driver, at_peer, other_peer}
-use Rattle.b1_inv.specs.Words.{IsPeer, IsDriver, IsMade}
+use Rattle.b1_inv.specs.Words.{IsPeer, IsDriver}
 
 some_same : {A : Type 0} (x y : A) → Some x ≡ Some y → x ≡ y
 some_same x y same = cc same
