@@ -1,6 +1,7 @@
 -- The queue as a set: which entries an event brings, and that all others stood there before.
 use Rattle.std.proofs.Common.{◌≡◌, ◌⊎◌, refl, ap, ◌∙◌, inl, inr, subst, ℕ, zero, suc, ◌+◌, max, Bool, true, false, not, List, [], ◌∷◌, map, filter, drop, length, Option, Some, None}
 use Rattle.std.specs.Prelude.{slice_get}
+use Rattle.std.proofs.lemmas.Bool.{not-true}
 use native.Mathlib.Omega.{arith}
 use Rattle.b1_model.specs.declared.naming.Key.{Key}
 use Rattle.b1_model.specs.declared.naming.NodeRef.{NodeRef}
@@ -57,13 +58,9 @@ leaves d action f = false
 abbrev pub ComesOrWas : Opening → DriverPart → Doing → PeerPart → Action → Key × Entry → Type 0
 ComesOrWas o d doing x action f = (Has x.queue f × (leaves d action f ≡ false)) ⊎ Comes o d doing x action f
 
-not_true : (b : Bool) → not b ≡ true → b ≡ false
-not_true true is = absurd (cc is)
-not_true false is = refl
-
 -- what stays doesn't pass
 pub without_fails : (test : Key × Entry → Bool) (queue : List (Key × Entry)) (f : Key × Entry) → Has (without test queue) f → Has queue f × (test f ≡ false)
-without_fails test queue f h = let k = filter_has (λ g. not (test g)) queue f h in (k.0, not_true (test f) k.1)
+without_fails test queue f h = let k = filter_has (λ g. not (test g)) queue f h in (k.0, not-true (test f) k.1)
 
 pub has_drop : {A : Type 0} (n : ℕ) (xs : List A) (x : A) → Has (drop n xs) x → Has xs x
 has_drop zero xs x h = h
