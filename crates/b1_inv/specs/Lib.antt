@@ -8,4 +8,5 @@ pub mod Numbers
 pub mod References
 pub mod Bounds
 pub mod Clocks
+pub mod Receipts
 pub mod Sound

@@ -13,6 +13,7 @@ use Rattle.b1_inv.specs.Numbers.{NumbersRight}
 use Rattle.b1_inv.specs.References.{FlightsRight, SlotsRight, ReferencesRight}
 use Rattle.b1_inv.specs.Bounds.{BoundsRight}
 use Rattle.b1_inv.specs.Clocks.{ClocksRight}
+use Rattle.b1_inv.specs.Receipts.{ReceiptsRight}
 
 -- a state that any list of steps leads to from a valid opening
 pub record IsSound (o : Opening) (s : State) : Type 0 where
@@ -30,3 +31,4 @@ pub record IsSound (o : Opening) (s : State) : Type 0 where
   pub references : ReferencesRight s
   pub bounds : BoundsRight o s
   pub clocks : ClocksRight s
+  pub receipts : ReceiptsRight s

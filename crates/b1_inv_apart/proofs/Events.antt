@@ -1,6 +1,7 @@
 -- Each event keeps staged own notices apart.
 use Rattle.std.proofs.Common.{arith, ◌<◌, ◌≡◌, refl, sym, ap, inl, inr, subst, ℕ, zero, suc, ◌+◌, Bool, true, false, cond, not, ◌&&◌, List, [], ◌∷◌, map, filter, drop, Option, Some, None}
 use Rattle.std.specs.Prelude.{⊤}
+use Rattle.std.proofs.Math.Bool.{and-false}
 use Rattle.b1_model.specs.declared.naming.Key.{Key}
 use Rattle.b1_model.specs.declared.naming.NodeRef.{NodeRef}
 use Rattle.b1_model.specs.declared.naming.Opening.{Opening}
@@ -53,10 +54,6 @@ once_drop zero queue once = once
 once_drop (suc n) [] once = once
 once_drop (suc n) (f ∷ rest) once = once_drop n rest once.1
 
-and_none : (b : Bool) → (b && false) ≡ false
-and_none true = refl
-and_none false = refl
-
 -- an entry that isn't a staged own notice
 once_other : (k : Key) (e : Entry) (queue : Items) → is_own_staged (k, e) ≡ false → AllApart queue → AllApart (put k e queue)
 once_other k e queue other once = once_put k e queue (λ g h own. absurd (cc (own, other))) once
@@ -72,7 +69,7 @@ module _ (d : DriverPart) where
   at_stage : (r : Option Reason) (memory : Bool) (user place serial : ℕ) (payload : List ℕ) (nodes : List NodeRef) (x : PeerPart) → AllApart x.queue → AllApart (stage_by r memory d.me user place serial payload nodes x).1.queue
   at_stage (Some r) memory user place serial payload nodes x once = once
   at_stage None true user place serial payload nodes x once = once
-  at_stage None false user place serial payload nodes x once = once_other _ _ x.queue (and_none _) once
+  at_stage None false user place serial payload nodes x once = once_other _ _ x.queue (and-false _) once
 
   at_unstage : (g : Option (Key × Entry)) (x : PeerPart) (index : ℕ) → AllApart x.queue → AllApart (unstaged_by g x d.me index).queue
   at_unstage None x index once = once
@@ -95,7 +92,7 @@ module _ (d : DriverPart) where
 
   at_release : (b : Bool) (x : PeerPart) (serial : ℕ) → AllApart x.queue → AllApart (with_release_notice b x serial).queue
   at_release false x serial once = once
-  at_release true x serial once = once_other (record { stamp = x.clock; origin = no_origin; index = serial }) (ReleaseNotice serial) x.queue (and_none _) once
+  at_release true x serial once = once_other (record { stamp = x.clock; origin = no_origin; index = serial }) (ReleaseNotice serial) x.queue (and-false _) once
 
   -- staged own notices have places before one
   abbrev Below : ℕ → Items → Type 0
@@ -115,7 +112,7 @@ module _ (d : DriverPart) where
 
   at_notice : (b : Bool) (x : PeerPart) (here : ℕ) (node : NodeRef) → AllApart x.queue → AllApart (notice_by b d.me x here node).queue
   at_notice false x here node once = once
-  at_notice true x here node once = once_other (record { stamp = x.clock + 1; origin = d.me; index = here }) (ForeignNotice node here) x.queue (and_none _) once
+  at_notice true x here node once = once_other (record { stamp = x.clock + 1; origin = d.me; index = here }) (ForeignNotice node here) x.queue (and-false _) once
 
   at_visit : (serials : List ℕ) (here : ℕ) (x : PeerPart) → AllApart x.queue → AllApart (visited_from d.me here serials x).queue
   at_visit [] here x once = once

@@ -5,6 +5,7 @@ use Rattle.std.proofs.lemmas.List.Elements.{All-nil, All-cons}
 use Rattle.std.proofs.lemmas.List.Kept.{AllPairs-cons}
 use Rattle.b1_step.proofs.Lists.{has_filter, filter_has}
 use Rattle.std.proofs.lemmas.Bool.{eqb-true}
+use Rattle.std.proofs.Math.Bool.{and-false}
 use Rattle.b1_model.specs.declared.naming.Key.{Key}
 use Rattle.b1_model.specs.declared.naming.Opening.{Opening}
 use Rattle.b1_model.specs.declared.commands.Command.{Command}
@@ -33,10 +34,6 @@ use Rattle.b1_inv_apart.proofs.Entries.{is_own_staged, AllApart}
 use Rattle.b1_inv_apart.proofs.Events.{Fresh, event_once}
 
 -- ---- the owner's staged notices
-
-and_false : (b : Bool) → (b && false) ≡ false
-and_false true = refl
-and_false false = refl
 
 both_true : (a b : Bool) → (a && true) ≡ true → b ≡ true → (a && b) ≡ true
 both_true true true is same = refl
@@ -87,9 +84,9 @@ module _ (q : ℕ) (s : State) (x : PeerPart) (is_x : IsPeer s q x) (notices : N
       by_test false same more = more
 
   own_staged : (key : Key) (e : Entry) → Has x.queue (key, e) → is_own_staged (key, e) ≡ true → is_staged_notice q (key, e) ≡ true
-  own_staged key (Message origin user index serial offset len nodes slots handles payload) has is = absurd (cc (sym is ∙ and_false (is_odd key.stamp)))
-  own_staged key (ForeignNotice node index) has is = absurd (cc (sym is ∙ and_false (is_odd key.stamp)))
-  own_staged key (ReleaseNotice serial) has is = absurd (cc (sym is ∙ and_false (is_odd key.stamp)))
+  own_staged key (Message origin user index serial offset len nodes slots handles payload) has is = absurd (cc (sym is ∙ and-false (is_odd key.stamp)))
+  own_staged key (ForeignNotice node index) has is = absurd (cc (sym is ∙ and-false (is_odd key.stamp)))
+  own_staged key (ReleaseNotice serial) has is = absurd (cc (sym is ∙ and-false (is_odd key.stamp)))
   own_staged key (OwnNotice serial index) has is =
       let origin : (key.origin == q) ≡ true = eqb-from key.origin q (notices.queued q x (key, OwnNotice serial index) is_x has).0 in
       both_true (is_odd key.stamp) (key.origin == q) is origin
@@ -143,9 +140,9 @@ module _ {o : Opening} {s : State} {p : ℕ} {command : Option Command} {t : Sta
       uncommitted_never waits = cc (sym (ap (λ doing. elim doing [ None ↦ false | Some one ↦ phase_uncommitted step.driver.me one.phase step.at ]) rests) ∙ waits)
 
       by_entry : (key : Key) (e : Entry) → Has step.peer.queue (key, e) → is_own_staged (key, e) ≡ false
-      by_entry key (Message origin user index serial offset len nodes slots handles payload) has = and_false (is_odd key.stamp)
-      by_entry key (ForeignNotice node index) has = and_false (is_odd key.stamp)
-      by_entry key (ReleaseNotice serial) has = and_false (is_odd key.stamp)
+      by_entry key (Message origin user index serial offset len nodes slots handles payload) has = and-false (is_odd key.stamp)
+      by_entry key (ForeignNotice node index) has = and-false (is_odd key.stamp)
+      by_entry key (ReleaseNotice serial) has = and-false (is_odd key.stamp)
       by_entry key (OwnNotice serial index) has = by_stage (is_odd key.stamp) refl
         where
           by_stage : (b : Bool) → b ≡ is_odd key.stamp → (b && true) ≡ false

@@ -2,20 +2,18 @@
 use Rattle.std.proofs.Common.{◌≡◌, ◌⊎◌, refl, sym, ap, ◌∙◌, inl, inr, ℕ, zero, suc, ◌+◌, ◌<◌, ◌≤◌, Bool, true, false, cond, List, [], ◌∷◌, set, Some, nat_le}
 use Rattle.std.specs.Prelude.{slice_get}
 use Rattle.std.proofs.lemmas.Bool.{leb-true, le-leb}
+use Rattle.std.proofs.lemmas.Option.{same_Some}
 use native.Mathlib.Omega.{arith}
 use Rattle.b1_model.specs.MachineParts.{PeerPart, DriverPart, clock_limit}
 use Rattle.b1_inv.specs.Clocks.{has_unstamped, spent, all_spent}
-
-some_one : {A : Type 0} (x y : A) → Some x ≡ Some y → x ≡ y
-some_one x y same = cc same
 
 -- a peer's part changes
 pub spent_peer : (xs : List PeerPart) (ds : List DriverPart) (q : ℕ) (x y : PeerPart) (d : DriverPart) → slice_get xs q ≡ Some x → slice_get ds q ≡ Some d → all_spent (set xs q y) ds + spent d x ≡ all_spent xs ds + spent d y
 spent_peer [] ds q x y d is_peer is_driver = absurd (cc is_peer)
 spent_peer (z ∷ xs) [] q x y d is_peer is_driver = absurd (cc is_driver)
 spent_peer (z ∷ xs) (e ∷ ds) zero x y d is_peer is_driver =
-    let peer : z ≡ x = some_one z x is_peer in
-    let driver : e ≡ d = some_one e d is_driver in
+    let peer : z ≡ x = same_Some z x is_peer in
+    let driver : e ≡ d = same_Some e d is_driver in
     let same : spent e z ≡ spent d x = ap (λ w. spent w z) driver ∙ ap (spent d) peer in
     let new : spent e y ≡ spent d y = ap (λ w. spent w y) driver in
     omega (arith, same, new)
@@ -26,8 +24,8 @@ pub spent_driver : (xs : List PeerPart) (ds : List DriverPart) (p : ℕ) (x : Pe
 spent_driver [] ds p x d e is_peer is_driver = absurd (cc is_peer)
 spent_driver (z ∷ xs) [] p x d e is_peer is_driver = absurd (cc is_driver)
 spent_driver (z ∷ xs) (f ∷ ds) zero x d e is_peer is_driver =
-    let peer : z ≡ x = some_one z x is_peer in
-    let driver : f ≡ d = some_one f d is_driver in
+    let peer : z ≡ x = same_Some z x is_peer in
+    let driver : f ≡ d = same_Some f d is_driver in
     let same : spent f z ≡ spent d x = ap (λ w. spent w z) driver ∙ ap (spent d) peer in
     let new : spent e z ≡ spent e x = ap (spent e) peer in
     omega (arith, same, new)

@@ -1,7 +1,7 @@
 -- A stamp, once fixed, stays until the command ends; and what stands committed with it stays so.
 use Rattle.std.proofs.Common.{◌≡◌, ◌⊎◌, refl, sym, ◌∙◌, inl, inr, ℕ, suc, ◌+◌, ◌<◌, ◌≤◌, max, Bool, true, false, cond, ◌&&◌, List, [], ◌∷◌, ◌++◌, drop, length, get_or, Option, Some, None, Ok, Err, nat_lt, nat_le}
 use Rattle.std.specs.Prelude.{slice_get}
-use Rattle.std.proofs.lemmas.Bool.{leb-true}
+use Rattle.std.proofs.lemmas.Bool.{leb-true, and_parts}
 use Rattle.std.proofs.lemmas.Option.{slice_get_within}
 use native.Mathlib.Omega.{arith}
 use Rattle.b1_model.specs.declared.naming.Key.{Key}
@@ -158,14 +158,10 @@ accepted_within places place is = by (slice_get places place) refl is
     by None is accepted = absurd (cc accepted)
     by (Some one) is accepted = slice_get_within places place one is
 
-and_both : (a b : Bool) → (a && b) ≡ true → (a ≡ true) × (b ≡ true)
-and_both true b is = (refl, is)
-and_both false b is = absurd (cc is)
-
 -- the places that wait after a commit are behind it, and waited before
 pub later_waits : (places : List (Option Reason)) (place at : ℕ) → (nat_le (accepted_from (place + 1) places) at && is_accepted_place places at) ≡ true → (place < at) × (is_accepted_place places at ≡ true)
 later_waits places place at is =
-    let k = and_both (nat_le (accepted_from (place + 1) places) at) (is_accepted_place places at) is in
+    let k = and_parts (nat_le (accepted_from (place + 1) places) at) (is_accepted_place places at) is in
     let below = leb-true (accepted_from (place + 1) places) at k.0 in
     let within = accepted_within places at k.1 in
     (elim (next_from 0 (place + 1) places) [ inl above ↦ omega (arith, above, below) | inr same ↦ absurd (omega (arith, same, below, within)) ], k.1)

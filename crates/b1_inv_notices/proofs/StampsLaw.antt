@@ -2,7 +2,7 @@
 use Rattle.std.proofs.Common.{◌≡◌, ◌≢◌, ◌⊎◌, refl, sym, ap, subst, ◌∙◌, inl, inr, ℕ, ◌<◌, ◌≤◌, false, Option, Some, None}
 use Rattle.std.specs.Prelude.{slice_get}
 use Rattle.std.proofs.lemmas.Bool.{cases_eq}
-use Rattle.std.proofs.lemmas.Option.{slice_get_within}
+use Rattle.std.proofs.lemmas.Option.{slice_get_within, same_Some}
 use native.Mathlib.Omega.{arith}
 use Rattle.b1_model.specs.declared.naming.Key.{Key}
 use Rattle.b1_model.specs.declared.naming.Opening.{Opening}
@@ -25,9 +25,6 @@ use Rattle.b1_inv_notices.proofs.NoticesLaw.{own_of}
 use Rattle.b1_inv_notices.proofs.StampTurns.{fixed_in, Gave, SameOr, stamp_turn, ends_same, WasDone, NotAhead}
 use Rattle.b1_inv_notices.proofs.AheadTurns.{ahead_turn, ends_ahead}
 use Rattle.b1_inv_notices.proofs.Stamped.{gave_clock, brought}
-
-some_one : {A : Type 0} (x y : A) → Some x ≡ Some y → x ≡ y
-some_one x y same = cc same
 
 -- committed, by the driver's open command and by its phase
 done_of : (d : DriverPart) (doing : Doing) (q : ℕ) (f : Key × Entry) → d.doing ≡ Some doing → WasDone d.me doing.phase q f → WasCommitted d doing q f
@@ -96,7 +93,7 @@ module _ {o : Opening} {s : State} {p : ℕ} {c : Option Command} {t : State} (s
       (sym (parts step).is_at ∙ k.0 ∙ own_number, ap (λ y. y.clock) (sym (parts step).is_peer) ∙ k.1, k.2)
 
   same_at : (q : ℕ) (x y : PeerPart) → IsPeer t q x → IsPeer t q y → x ≡ y
-  same_at q x y is also = some_one x y (sym is ∙ also)
+  same_at q x y is also = same_Some x y (sym is ∙ also)
 
   fixed_below : (r : ℕ) (e : DriverPart) (y : PeerPart) (stamp : ℕ) → IsDriver t r e → IsPeer t r y → fixed_stamp e ≡ Some stamp → stamp ≤ y.clock
   fixed_below r e y stamp is_driver is_peer is = by (driver_cases step r e is_driver)
@@ -148,7 +145,7 @@ module _ {o : Opening} {s : State} {p : ℕ} {c : Option Command} {t : State} (s
         fixed = k.fixed;
       }
       by (inl same) =
-          let at_p : k.driver ≡ step.driver = some_one k.driver step.driver (sym k.is_driver ∙ ap (slice_get s.drivers) same ∙ step.is_driver) in
+          let at_p : k.driver ≡ step.driver = same_Some k.driver step.driver (sym k.is_driver ∙ ap (slice_get s.drivers) same ∙ step.is_driver) in
           record {
             driver = step.new_driver;
             own = own_after.0;
@@ -161,7 +158,7 @@ module _ {o : Opening} {s : State} {p : ℕ} {c : Option Command} {t : State} (s
           above : f.0.origin ≡ p → (stamp : ℕ) → Gave (going_answer step) stamp → f.0.stamp < stamp
           above same stamp gave =
               let g = given_at stamp gave in
-              let here : k.own ≡ step.peer = some_one k.own step.peer (sym k.is_own ∙ ap (slice_get s.peers) (same ∙ sym g.0) ∙ step.is_peer) in
+              let here : k.own ≡ step.peer = same_Some k.own step.peer (sym k.is_own ∙ ap (slice_get s.peers) (same ∙ sym g.0) ∙ step.is_peer) in
               let one = k.below in
               omega (arith, one, ap (λ z. z.clock) here, g.2)
 

@@ -1,6 +1,7 @@
 -- A fact of what is open at a driver, carried through an answer; and the two parts that a step is found on.
 use Rattle.std.proofs.Common.{◌≡◌, ◌⊎◌, refl, sym, ap, ◌∙◌, inl, inr, ℕ, zero, suc, ◌<◌, Bool, true, false, cond, List, [], ◌∷◌, length, Option, Some, None, option_map}
 use Rattle.std.specs.Prelude.{slice_get, ⊤}
+use Rattle.std.proofs.lemmas.Option.{same_Some}
 use native.Mathlib.Omega.{arith}
 use Rattle.b1_model.specs.declared.commands.Command.{Command}
 use Rattle.b1_model.specs.declared.commands.Command.TheVariants as cmd
@@ -80,9 +81,6 @@ pub record Parts {o : Opening} {s : State} {p : ℕ} {c : Option Command} {t : S
   pub is_driver : took (opened step.driver command phase step.driver.owed) (answered o step.local.memory step.driver command phase step.driver.owed step.peer).0 ≡ step.new_driver
   pub is_peer : (answered o step.local.memory step.driver command phase step.driver.owed step.peer).1 ≡ step.new_peer
 
-some_is : {A : Type 0} (x y : A) → Some x ≡ Some y → x ≡ y
-some_is x y same = cc same
-
 module _ {o : Opening} {s : State} {p : ℕ} {c : Option Command} {t : State} (step : Step o s p c t) where
   parts_of : (command : Command) (phase : Phase) → (step.driver.doing ≡ Some (doing_in command phase)) ⊎ ((step.driver.doing ≡ None) × (phase ≡ Starting))
       → aimed (opened step.driver command phase step.driver.owed) ≡ (step.action, step.at)
@@ -105,10 +103,10 @@ module _ {o : Opening} {s : State} {p : ℕ} {c : Option Command} {t : State} (s
       → option_map aimed (begun_by step.driver open_now begins) ≡ Some (step.action, step.at)
       → effect_by o step.local.memory step.driver (begun_by step.driver open_now begins) step.peer ≡ (step.new_driver, step.new_peer) → Parts step
   parts_by None None is aim after = absurd (cc aim)
-  parts_by None (Some command) is aim after = parts_of command Starting (inr (is, refl)) (some_is _ _ aim) after
+  parts_by None (Some command) is aim after = parts_of command Starting (inr (is, refl)) (same_Some _ _ aim) after
   parts_by (Some doing) None is aim after =
       let same = same_opened doing is in
-      parts_of doing.command doing.phase (inl is) (ap aimed (sym same) ∙ some_is _ _ aim) (ap (λ e. effect_by o step.local.memory step.driver (Some e) step.peer) (sym same) ∙ after)
+      parts_of doing.command doing.phase (inl is) (ap aimed (sym same) ∙ same_Some _ _ aim) (ap (λ e. effect_by o step.local.memory step.driver (Some e) step.peer) (sym same) ∙ after)
   parts_by (Some doing) (Some command) is aim after = absurd (cc aim)
 
   pub parts : Parts step

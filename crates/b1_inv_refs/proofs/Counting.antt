@@ -2,7 +2,7 @@
 use Rattle.std.proofs.Common.{◌≡◌, ◌⊎◌, refl, sym, ap, ◌∙◌, inl, inr, subst, ℕ, zero, suc, ◌+◌, ◌<◌, ◌≤◌, ◌==◌, ◌%◌, Bool, true, false, cond, ◌&&◌, List, [], ◌∷◌, get_or, length, sum_by, Option, Some, None}
 use Rattle.std.specs.Prelude.{slice_get}
 use Rattle.std.proofs.lemmas.Bool.{cases_eq, eq-eqb, ne_eqb, eqb-true, and_parts}
-use Rattle.std.proofs.lemmas.Option.{slice_get_within, get_or_from_slice_get}
+use Rattle.std.proofs.lemmas.Option.{slice_get_within, get_or_from_slice_get, same_Some}
 use Rattle.std.proofs.lemmas.List.Sums.{get_or-le-sum_by}
 use native.Mathlib.Omega.{arith}
 use Rattle.b1_model.specs.declared.naming.Key.{Key}
@@ -48,9 +48,6 @@ use Rattle.b1_inv_refs.proofs.Goes.{Goes_on, local_goes, begin_goes, recv_goes, 
 use Rattle.b1_inv_refs.proofs.Moves.{attach_goes, commit_goes, drop_goes, reap_goes, release_goes, flush_goes}
 
 -- ---- small facts of lists
-
-some_same : {A : Type 0} (x y : A) → Some x ≡ Some y → x ≡ y
-some_same x y same = cc same
 
 pub has_within : {X : Type 0} (xs : List X) (i : ℕ) (d : X) → i < length xs → Has xs (get_or xs i d)
 has_within [] i d less = absurd (omega (arith, less))
@@ -114,7 +111,7 @@ module _ {o : Opening} {s : State} {p : ℕ} {command : Option Command} {t : Sta
 
   pub within : (n : NodeRef) → IsMade s n → step.at ≡ n.owner → n.serial < length step.peer.nodes
   within n made here =
-      let same : made.0 ≡ step.peer = some_same made.0 step.peer (sym made.1 ∙ ap (slice_get s.peers) (sym here) ∙ step.is_peer) in
+      let same : made.0 ≡ step.peer = same_Some made.0 step.peer (sym made.1 ∙ ap (slice_get s.peers) (sym here) ∙ step.is_peer) in
       subst (λ z. n.serial < length z.nodes) same made.2
 
   pub below : (n : NodeRef) → IsMade s n → n.owner < length s.peers
@@ -141,8 +138,8 @@ module _ {o : Opening} {s : State} {p : ℕ} {command : Option Command} {t : Sta
       let there = find_has (is_stage k.e.me place) step.peer.queue f found in
       let sender = sound.stages.sender step.at step.peer f step.is_peer there.0 (stage_is_message k.e.me place f there.1) (stage_is_staged k.e.me place f there.1) in
       let origin : f.0.origin ≡ p = stage_origin k.e.me place f there.1 ∙ me_is in
-      let driver : sender.driver ≡ step.driver = some_same sender.driver step.driver (sym sender.is_driver ∙ ap (slice_get s.drivers) origin ∙ step.is_driver) in
-      let doing : sender.doing ≡ k.doing = some_same sender.doing k.doing (sym sender.is_open ∙ ap (λ d. d.doing) driver ∙ is_open phase is not_start) in
+      let driver : sender.driver ≡ step.driver = same_Some sender.driver step.driver (sym sender.is_driver ∙ ap (slice_get s.drivers) origin ∙ step.is_driver) in
+      let doing : sender.doing ≡ k.doing = same_Some sender.doing k.doing (sym sender.is_open ∙ ap (λ d. d.doing) driver ∙ is_open phase is not_start) in
       carries o step.at sender.doing f.0 f.1 sender.message ∙ ap (λ d. (begun_of d.phase).with) doing ∙ ap (λ ph. (begun_of ph).with) is
     where
       stage_origin : (origin index : ℕ) (f : Key × Entry) → is_stage origin index f ≡ true → f.0.origin ≡ origin

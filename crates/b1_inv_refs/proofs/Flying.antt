@@ -27,7 +27,7 @@ use Rattle.b1_inv_refs.proofs.Flights.{flies_after}
 use Rattle.b1_inv_refs.proofs.Numbered.{EachRecord, each_changed, each_made, numbers_none, numbers_made, numbers_same, numbers_less, numbers_come}
 use Rattle.b1_inv_refs.proofs.Tables.{Closed, table_after}
 
-numbers_closed : Closed AreNumbered (λ m. ⊤)
+pub numbers_closed : Closed AreNumbered (λ m. ⊤)
 numbers_closed = record {
   none = λ g. numbers_none g;
   more = λ g m hs new t. numbers_made g m hs t;

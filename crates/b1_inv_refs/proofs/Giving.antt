@@ -4,6 +4,7 @@ use Rattle.std.specs.Prelude.{slice_get}
 use Rattle.std.specs.List.{list_any}
 use Rattle.std.proofs.lemmas.Bool.{cases_eq, eq-eqb, ne_eqb, eqb-true}
 use Rattle.std.proofs.lemmas.List.{length-set, length-append}
+use Rattle.std.proofs.lemmas.Option.{same_Some}
 use native.Mathlib.Omega.{arith}
 use Rattle.b1_model.specs.declared.naming.NodeRef.{NodeRef}
 use Rattle.b1_model.specs.declared.naming.Wire.{Wire}
@@ -25,7 +26,7 @@ use Rattle.b1_inv_refs.proofs.Counts.{counted_one}
 use Rattle.b1_inv_refs.proofs.Counting.{has_within}
 use Rattle.b1_inv_refs.proofs.Widths.{IsWide, EachNode, wide_counted}
 use Rattle.b1_inv_refs.proofs.Places.{one_number, serial_within, serial_counted, part_there}
-use Rattle.b1_inv_refs.proofs.SameWires.{some_same, symmetric, turned, any_has, any_none, has_place, filter_more, more_at, within_at, same_wire, is_same_wire}
+use Rattle.b1_inv_refs.proofs.SameWires.{symmetric, turned, any_has, any_none, has_place, filter_more, more_at, within_at, same_wire, is_same_wire}
 use Rattle.b1_inv_refs.proofs.Wired.{held_given, made_there, stays_there, numbers_given}
 use Rattle.b1_inv_refs.proofs.Wiring.{Peers, Laid, MadeIn, NamesAt, Names, count_read, held_read, Wiring, read_part, map_map, map_same, back, forth}
 
@@ -137,7 +138,7 @@ module _ (n : ℕ) (held : List Wire) (xs : Peers) (k : Wiring n held xs) (node 
       at None is (inl same) = absurd (cc (sym is ∙ ap (slice_get xs) same ∙ owner_is))
       at None is (inr other) = rw (ne_eqb m.owner node.owner other) refl
       at (Some x) is (inl same) =
-          let alike : x ≡ named.0 = some_same x named.0 (sym is ∙ ap (slice_get xs) same ∙ owner_is) in
+          let alike : x ≡ named.0 = same_Some x named.0 (sym is ∙ ap (slice_get xs) same ∙ owner_is) in
           let one : node.serial < length x.nodes = subst (λ z. node.serial < length z.nodes) (sym alike) in_nodes in
           let two : j < length (get_or x.nodes node.serial no_node).counts = subst (λ z. j < length (get_or z.nodes node.serial no_node).counts) (sym alike) in_counts in
           rw (eq-eqb m.owner node.owner same) (counted_one x.nodes node.serial m.serial j q one two)
@@ -174,7 +175,7 @@ module _ (n : ℕ) (held : List Wire) (xs : Peers) (k : Wiring n held xs) (node 
   -- a record that is named as v is, is of the node
   same_node : (h : HandleRecord) (w : Wire) → h.node.owner ≡ w.from → NamesAt xs w h.node.serial → w.from ≡ v.from → w.number ≡ v.number → h.node ≡ node
   same_node h w owner at from number =
-      let y_same : at.0 ≡ named.0 = some_same at.0 named.0 (sym at.1 ∙ ap (slice_get xs) from ∙ named.1) in
+      let y_same : at.0 ≡ named.0 = same_Some at.0 named.0 (sym at.1 ∙ ap (slice_get xs) from ∙ named.1) in
       let both : Some h.node.serial ≡ Some node.serial = sym at.2 ∙ ap (λ m. serial_of m at.0.nodes) number ∙ ap (λ z. serial_of v.number z.nodes) y_same ∙ named.2 in
       let serials : h.node.serial ≡ node.serial = cc both in
       let owners : h.node.owner ≡ node.owner = owner ∙ from ∙ from_is in
@@ -208,7 +209,7 @@ module _ (n : ℕ) (held : List Wire) (xs : Peers) (k : Wiring n held xs) (node 
           let node_is : m.0.node ≡ node = numbered_goal.apart m.0 h number m.1 there (m.2 ∙ ap Some (sym was.2)) some ∙ same in
           let in_held = filter_has (λ z. z.to == j) held w.0 (has_at (held_by held j) was.0 w.0 w.1) in
           let from : w.0.from ≡ v.from = sym m.3 ∙ ap (λ z. z.owner) node_is ∙ sym from_is in
-          let y_same : m.4.0 ≡ named.0 = some_same m.4.0 named.0 (sym m.4.1 ∙ ap (slice_get xs) from ∙ named.1) in
+          let y_same : m.4.0 ≡ named.0 = same_Some m.4.0 named.0 (sym m.4.1 ∙ ap (slice_get xs) from ∙ named.1) in
           let number_is : w.0.number ≡ v.number = one_number named.0.nodes node.serial w.0.number v.number (ap (λ z. serial_of w.0.number z.nodes) (sym y_same) ∙ m.4.2 ∙ ap (λ z. Some z.serial) node_is) named.2 in
           absurd (cc (sym (any_none (λ z. is_same z v) held w.0 is in_held.0) ∙ is_same_wire w.0 v from (eqb-true w.0.to j in_held.1 ∙ sym to_is) number_is))
 
@@ -245,7 +246,7 @@ module _ (n : ℕ) (held : List Wire) (xs : Peers) (k : Wiring n held xs) (node 
     where
       at : (q ≡ j) ⊎ (q ≡ j → ⊥) → (give q x).given ≡ x.given
       at (inl same) =
-          let alike : x ≡ goal = some_same x goal (sym is ∙ ap (slice_get xs) same ∙ goal_is) in
+          let alike : x ≡ goal = same_Some x goal (sym is ∙ ap (slice_get xs) same ∙ goal_is) in
           let held_x : held_in node x.handles ≡ held_in node goal.handles = ap (λ z. held_in node z.handles) alike in
           rw (eq-eqb q j same, ne_eqb (held_in node x.handles) 0 (λ e. absurd (omega (arith, e, held_x, some)))) refl
       at (inr other) = rw (ne_eqb q j other) refl
@@ -258,7 +259,7 @@ module _ (n : ℕ) (held : List Wire) (xs : Peers) (k : Wiring n held xs) (node 
 
       at : (q ≡ j) ⊎ (q ≡ j → ⊥) → (give q x).given ≡ length (held_by (held ++ v ∷ []) q)
       at (inl same) =
-          let alike : x ≡ goal = some_same x goal (sym is ∙ ap (slice_get xs) same ∙ goal_is) in
+          let alike : x ≡ goal = same_Some x goal (sym is ∙ ap (slice_get xs) same ∙ goal_is) in
           let zero_held : held_in node x.handles ≡ 0 = ap (λ z. held_in node z.handles) alike ∙ none in
           let many = k.many q x is in
           let long : length (held_by (held ++ v ∷ []) q) ≡ length (held_by held q) + 1 = ap length listed ∙ ap (λ b. length (held_by held q ++ cond b (v ∷ []) [])) (eq-eqb v.to q (to_is ∙ sym same)) ∙ length-append (held_by held q) (v ∷ []) in
@@ -276,7 +277,7 @@ module _ (n : ℕ) (held : List Wire) (xs : Peers) (k : Wiring n held xs) (node 
         | inl old ↦ names_old q x g w is (k.names q x g w is old)
         | inr new ↦
             let q_is : q ≡ j = sym to ∙ to_is in
-            let alike : x ≡ goal = some_same x goal (sym is ∙ ap (slice_get xs) q_is ∙ goal_is) in
+            let alike : x ≡ goal = same_Some x goal (sym is ∙ ap (slice_get xs) q_is ∙ goal_is) in
             let g_is : goal.given ≡ g = ap (λ z. z.given) (sym alike) ∙ k.many q x is ∙ sym new.0 in
             subst (λ z. Names given_parts (give q x).handles g z) (sym new.1)
             (subst (λ m. Names given_parts (give q x).handles m v) g_is

@@ -3,6 +3,7 @@ use Rattle.std.proofs.Common.{◌≡◌, ◌≢◌, refl, sym, ap, ◌∙◌, in
 use Rattle.std.specs.Prelude.{slice_get}
 use Rattle.std.proofs.lemmas.Bool.{eq-eqb, eqb-true}
 use Rattle.std.proofs.lemmas.List.Sums.{sum_by-cons}
+use Rattle.std.proofs.lemmas.Option.{same_Some}
 use native.Mathlib.Omega.{arith}
 use Rattle.b1_model.specs.declared.naming.NodeRef.{NodeRef}
 use Rattle.b1_model.specs.declared.naming.PeerSpec.{PeerSpec}
@@ -25,9 +26,6 @@ use Rattle.b1_inv_refs.proofs.GivenUp.{found_has, found_none, number_is}
 use Rattle.b1_inv_refs.proofs.Places.{made_serial, part_there}
 use Rattle.b1_inv_refs.proofs.Wiring.{Peers, Laid, NamesAt, count_read, held_read, Wiring, read_part, wiring_made}
 use Rattle.b1_inv_refs.proofs.Giving.{wiring_given}
-
-some_same : {A : Type 0} (x y : A) → Some x ≡ Some y → x ≡ y
-some_same x y same = cc same
 
 -- what a number names at a part
 named_own : (x : PeerPart) (number serial : ℕ) → is_own number ≡ true → serial_of number x.nodes ≡ Some serial → node_named x number ≡ Some (record { owner = x.me; serial = serial })
@@ -67,7 +65,7 @@ module _ (n : ℕ) (held : List Wire) (xs : Peers) (k : Wiring n held xs) (w : W
   giver_was : giver ≡ wire_made w.number old
   giver_was =
       let old_is : slice_get xs w.from ≡ Some old = part_there xs w.from (let c = k.count in let f = can.from in omega (arith, c, f)) in
-      some_same giver (wire_made w.number old) (sym giver_is ∙ read_part xs w.from w.from (wire_made w.number) ∙ ap (option_map (λ x. cond (w.from == w.from) (wire_made w.number x) x)) old_is ∙ ap (λ b. Some (cond b (wire_made w.number old) old)) (eq-eqb w.from w.from refl))
+      same_Some giver (wire_made w.number old) (sym giver_is ∙ read_part xs w.from w.from (wire_made w.number) ∙ ap (option_map (λ x. cond (w.from == w.from) (wire_made w.number x) x)) old_is ∙ ap (λ b. Some (cond b (wire_made w.number old) old)) (eq-eqb w.from w.from refl))
 
   -- an own number
   own_gives : is_own w.number ≡ true → Gives held made w
@@ -137,7 +135,7 @@ module _ (n : ℕ) (held : List Wire) (xs : Peers) (k : Wiring n held xs) (w : W
 
 before_is : (o : Opening) (here : ℕ) (specs : List PeerSpec) (q : ℕ) (x : PeerPart) → slice_get (peers_before o here specs) q ≡ Some x → (spec : PeerSpec) × (x ≡ peer_before o (here + q) spec)
 before_is o here [] q x is = absurd (cc is)
-before_is o here (spec ∷ rest) zero x is = let moved : here ≡ here + 0 = omega arith in (spec, sym (some_same (peer_before o here spec) x is) ∙ ap (λ m. peer_before o m spec) moved)
+before_is o here (spec ∷ rest) zero x is = let moved : here ≡ here + 0 = omega arith in (spec, sym (same_Some (peer_before o here spec) x is) ∙ ap (λ m. peer_before o m spec) moved)
 before_is o here (spec ∷ rest) (suc q) x is = let k = before_is o (here + 1) rest q x is in let moved : here + 1 + q ≡ here + suc q = omega arith in (k.0, k.1 ∙ ap (λ m. peer_before o m k.0) moved)
 
 before_count : (o : Opening) (here : ℕ) (specs : List PeerSpec) → length (peers_before o here specs) ≡ length specs

@@ -3,13 +3,11 @@ use Rattle.std.proofs.Common.{◌≡◌, ◌⊎◌, refl, sym, ap, ◌∙◌, in
 use Rattle.std.specs.Prelude.{slice_get}
 use Rattle.std.specs.List.{list_any}
 use Rattle.std.proofs.lemmas.Bool.{cases_eq, eq-eqb, ne_eqb, eqb-true, and_parts, or_cases, or_parts}
+use Rattle.std.proofs.lemmas.Option.{same_Some}
 use native.Mathlib.Omega.{arith}
 use Rattle.b1_model.specs.declared.naming.Wire.{Wire}
 use Rattle.b1_model.specs.Opening.{is_same}
 use Rattle.b1_step.specs.Rights.{Has}
-
-pub some_same : {A : Type 0} (x y : A) → Some x ≡ Some y → x ≡ y
-some_same x y same = cc same
 
 pub symmetric : (a b : ℕ) → (a == b) ≡ (b == a)
 symmetric a b = elim (cases_eq a b) [ inl same ↦ eq-eqb a b same ∙ sym (eq-eqb b a (sym same)) | inr apart ↦ ne_eqb a b apart ∙ sym (ne_eqb b a (λ e. apart (sym e))) ]
@@ -46,7 +44,7 @@ filter_more {X} test (x ∷ xs) y = at (test x) (filter_more test xs y)
 
 -- what stands at a place of a longer list
 pub more_at : {X : Type 0} (xs : List X) (y z : X) (i : ℕ) → slice_get (xs ++ y ∷ []) i ≡ Some z → (slice_get xs i ≡ Some z) ⊎ ((i ≡ length xs) × (z ≡ y))
-more_at [] y z zero is = inr (refl, sym (some_same y z is))
+more_at [] y z zero is = inr (refl, sym (same_Some y z is))
 more_at [] y z (suc i) is = absurd (cc is)
 more_at (x ∷ xs) y z zero is = inl is
 more_at (x ∷ xs) y z (suc i) is = elim (more_at xs y z i is) [ inl old ↦ inl old | inr new ↦ inr (ap suc new.0, new.1) ]

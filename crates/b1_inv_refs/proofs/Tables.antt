@@ -54,7 +54,7 @@ module _ (T : ℕ → Handles → Type 0) (New : NodeRef → Type 0) (c : Closed
   at_discard (ForeignNotice node index) x t = c.dead x.given node x.handles t
   at_discard (ReleaseNotice serial) x t = t
 
-  at_discards : (es : List (Key × Entry)) (x : PeerPart) → Holds x → Holds (fold (λ z f. discarded z f.1) x es)
+  pub at_discards : (es : List (Key × Entry)) (x : PeerPart) → Holds x → Holds (fold (λ z f. discarded z f.1) x es)
   at_discards [] x t = t
   at_discards (f ∷ rest) x t = at_discards rest (discarded x f.1) (at_discard f.1 x t)
 

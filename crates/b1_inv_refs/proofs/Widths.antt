@@ -6,6 +6,7 @@ use Rattle.b1_model.specs.declared.naming.Opening.{Opening}
 use Rattle.b1_model.specs.declared.commands.SendCmd.{SendCmd}
 use Rattle.b1_model.specs.declared.parts.Attach.{Attach}
 use Rattle.b1_model.specs.declared.parts.Attach.TheVariants as attach
+use Rattle.b1_model.specs.declared.parts.NodeState.{NodeState}
 use Rattle.b1_model.specs.declared.parts.NodeState.TheVariants.{Live, Dying, Destroyed}
 use Rattle.b1_model.specs.declared.entries.Entry.{Entry}
 use Rattle.b1_model.specs.declared.entries.Entry.TheVariants.{Message, OwnNotice, ForeignNotice, ReleaseNotice}
@@ -23,6 +24,7 @@ use Rattle.b1_model.specs.MachineDestroy.{doom_by}
 use Rattle.b1_model.specs.MachineDriver.{send_of}
 use Rattle.b1_model.specs.MachineEvents.{happens, begin_by, destroy_by, begin_refusal, begin_serials, collected_of, doomed_of}
 use Rattle.b1_step.specs.Rights.{Has}
+use Rattle.b1_step.proofs.Lists.{filter_has}
 use Rattle.b1_step.proofs.Changed.{changes}
 use Rattle.b1_inv_refs.proofs.Arrivals.{all_removed, slots_rest}
 use Rattle.b1_inv_refs.proofs.Counts.{Nodes}
@@ -74,6 +76,84 @@ each_more P [] m new each n (inr there) = absurd there
 each_more P (l ∷ rest) m new each n (inl same) = each n (inl same)
 each_more P (l ∷ rest) m new each n (inr there) = each_more P rest m new (λ k h. each k (inr h)) n there
 
+-- what a new node has, and what each small change of a node keeps
+pub record NodesClosed (width : ℕ) (P : NodePart → Type 0) : Type 0 where
+  pub new : (number : ℕ) → is_own number ≡ true → P (record { number = number; state = Live; counts = replicate width 0; taken = false })
+  pub more : (peer : ℕ) (n : NodePart) → P n → P (counted peer n)
+  pub less : (peer k : ℕ) (n : NodePart) → P n → P (uncounted peer k n)
+  pub lives : (state : NodeState) (n : NodePart) → P n → P (in_state state n)
+  pub noticed : (n : NodePart) → P n → P (notice_taken n)
+
+pub each_made : (width : ℕ) (P : NodePart → Type 0) (number : ℕ) (nodes : Nodes) → P (record { number = number; state = Live; counts = replicate width 0; taken = false }) → EachNode P nodes → EachNode P (with_made width number nodes)
+each_made width P number nodes new each = at (serial_of number nodes)
+  where
+    at : (found : Option ℕ) → EachNode P (elim found [ None ↦ nodes ++ record { number = number; state = Live; counts = replicate width 0; taken = false } ∷ [] | Some serial ↦ nodes ])
+    at None = each_more P nodes (record { number = number; state = Live; counts = replicate width 0; taken = false }) new each
+    at (Some serial) = each
+
+pub each_counted : (P : NodePart → Type 0) (peer : ℕ) → ((n : NodePart) → P n → P (counted peer n)) → (serial : ℕ) (nodes : Nodes) → EachNode P nodes → EachNode P (with_node serial (counted peer) nodes)
+each_counted P peer closed serial nodes each = each_with P (counted peer) closed nodes serial each
+
+module _ (width : ℕ) (P : NodePart → Type 0) (c : NodesClosed width P) where
+  abbrev All : Nodes → Type 0
+  All nodes = EachNode P nodes
+
+  all_made : (numbers : List ℕ) (nodes : Nodes) → ((number : ℕ) → Has numbers number → is_own number ≡ true) → All nodes → All (fold (λ ns number. with_made width number ns) nodes numbers)
+  all_made [] nodes own each = each
+  all_made (number ∷ rest) nodes own each = all_made rest (with_made width number nodes) (λ n h. own n (inr h)) (each_made width P number nodes (c.new number (own number (inl refl))) each)
+
+  at_begin : (r : Option Reason) (memory : Bool) (b : SendCmd) (x : PeerPart) → x.peers ≡ width → All x.nodes → All (begin_by r memory b x).1.nodes
+  at_begin (Some r) memory b x same each = each
+  at_begin None true b x same each = each
+  at_begin None false b x same each =
+      subst (λ w. All (fold (λ ns number. with_made w number ns) x.nodes (filter is_own b.with))) (sym same)
+      (all_made (filter is_own b.with) x.nodes (λ n h. (filter_has is_own b.with n h).1) each)
+
+  at_attach : (a : Attach) (x : PeerPart) (serial dest : ℕ) → All x.nodes → All (attached_by a x serial dest).nodes
+  at_attach attach.Counted x serial dest each = each_with P (counted dest) (c.more dest) x.nodes serial each
+  at_attach attach.Own x serial dest each = each
+  at_attach (attach.Void stamp) x serial dest each = each
+
+  at_drop : (b : Bool) (x : PeerPart) (serial holder k clock : ℕ) → All x.nodes → All (with_release_notice b (dropped_refs x serial holder k clock) serial).nodes
+  at_drop false x serial holder k clock each = each_with P (uncounted holder k) (c.less holder k) x.nodes serial each
+  at_drop true x serial holder k clock each = each_with P (uncounted holder k) (c.less holder k) x.nodes serial each
+
+  at_destroy : (r : Option Reason) (doomed : List ℕ) (x : PeerPart) → All x.nodes → All (destroy_by r doomed x).1.nodes
+  at_destroy (Some r) doomed x each = each
+  at_destroy None doomed x each = each_all P (in_state Dying) (c.lives Dying) doomed x.nodes each
+
+  at_doom : (late : List ℕ) (x : PeerPart) (collected : ℕ) (doomed : List ℕ) → All x.nodes → All (doom_by late x collected doomed).nodes
+  at_doom [] x collected doomed each = each_all P (in_state (Destroyed (final_stamp x collected))) (c.lives (Destroyed (final_stamp x collected))) doomed x.nodes each
+  at_doom (peer ∷ rest) x collected doomed each = each
+
+  at_recv : (old new : Nodes) → TakenFrom old new → All old → All new
+  at_recv old new (inl same) each = subst All (sym same) each
+  at_recv old new (inr (serial, same)) each = subst All (sym same) (each_with P notice_taken c.noticed old serial each)
+
+  by_same : (x y : PeerPart) → y.nodes ≡ x.nodes → All x.nodes → All y.nodes
+  by_same x y same each = subst All (sym same) each
+
+  -- each event keeps it
+  pub each_after : (o : Opening) (memory : Bool) (d : DriverPart) (doing : Doing) (action : Action) (x : PeerPart) → x.peers ≡ width → All x.nodes → All (happens o memory d doing action x).1.nodes
+  each_after o memory d doing act.Begin x same each = at_begin (send_refusal x (send_of doing.command)) memory (send_of doing.command) x same each
+  each_after o memory d doing (act.Attach peer serial dest) x same each = at_attach (attach_answer x serial dest) x serial dest each
+  each_after o memory d doing act.Recv x same each = at_recv x.nodes (received_part x).nodes (recv_nodes x) each
+  each_after o memory d doing (act.DropRefs peer serial holder k clock) x same each = at_drop (is_released (dropped_refs x serial holder k clock) serial) x serial holder k clock each
+  each_after o memory d doing act.BeginDestroy x same each = at_destroy (begin_refusal doing.command x) (begin_serials doing.command x) x each
+  each_after o memory d doing act.StampDestroy x same each = at_doom x.late x (collected_of doing.phase) (doomed_of doing.phase) each
+  each_after o memory d doing act.Rest x same each = each
+  each_after o memory d doing (act.Stage peer place) x same each = by_same x (happens o memory d doing (act.Stage peer place) x).1 (ap (λ y. y.nodes) (changes o memory d doing (act.Stage peer place) x)) each
+  each_after o memory d doing (act.Unstage peer place) x same each = by_same x (happens o memory d doing (act.Unstage peer place) x).1 (ap (λ y. y.nodes) (changes o memory d doing (act.Unstage peer place) x)) each
+  each_after o memory d doing act.Stamp x same each = each
+  each_after o memory d doing (act.Sync peer stamp) x same each = each
+  each_after o memory d doing (act.Commit peer place stamp) x same each = by_same x (happens o memory d doing (act.Commit peer place stamp) x).1 (ap (λ y. y.nodes) (changes o memory d doing (act.Commit peer place stamp) x)) each
+  each_after o memory d doing (act.CommitNotices peer stamp) x same each = each
+  each_after o memory d doing act.Reap x same each = each
+  each_after o memory d doing act.Release x same each = by_same x (happens o memory d doing act.Release x).1 (ap (λ y. y.nodes) (changes o memory d doing act.Release x)) each
+  each_after o memory d doing (act.Visit peer) x same each = by_same x (happens o memory d doing (act.Visit peer) x).1 (ap (λ y. y.nodes) (changes o memory d doing (act.Visit peer) x)) each
+  each_after o memory d doing act.Flush x same each = each
+  each_after o memory d doing act.Local x same each = by_same x (happens o memory d doing act.Local x).1 (ap (λ y. y.nodes) (changes o memory d doing act.Local x)) each
+
 -- as many counts as there are peers
 abbrev pub IsWide : ℕ → NodePart → Type 0
 IsWide width n = length n.counts ≡ width
@@ -82,69 +162,20 @@ module _ (width : ℕ) where
   abbrev Wide : Nodes → Type 0
   Wide nodes = EachNode (IsWide width) nodes
 
-  pub wide_made : (number : ℕ) (nodes : Nodes) → Wide nodes → Wide (with_made width number nodes)
-  wide_made number nodes each = at (serial_of number nodes)
-    where
-      at : (found : Option ℕ) → Wide (elim found [ None ↦ nodes ++ record { number = number; state = Live; counts = replicate width 0; taken = false } ∷ [] | Some serial ↦ nodes ])
-      at None = each_more (IsWide width) nodes (record { number = number; state = Live; counts = replicate width 0; taken = false }) (length-replicate width 0) each
-      at (Some serial) = each
+  wide_closed : NodesClosed width (IsWide width)
+  wide_closed = record {
+    new = λ number own. length-replicate width 0;
+    more = λ peer n w. length-set n.counts peer (count_of n peer + 1) ∙ w;
+    less = λ peer k n w. length-set n.counts peer (count_of n peer - k) ∙ w;
+    lives = λ state n w. w;
+    noticed = λ n w. w;
+  }
 
-  all_wide : (numbers : List ℕ) (nodes : Nodes) → Wide nodes → Wide (fold (λ ns number. with_made width number ns) nodes numbers)
-  all_wide [] nodes each = each
-  all_wide (number ∷ rest) nodes each = all_wide rest (with_made width number nodes) (wide_made number nodes each)
+  pub wide_made : (number : ℕ) (nodes : Nodes) → Wide nodes → Wide (with_made width number nodes)
+  wide_made number nodes each = each_made width (IsWide width) number nodes (length-replicate width 0) each
 
   pub wide_counted : (peer serial : ℕ) (nodes : Nodes) → Wide nodes → Wide (with_node serial (counted peer) nodes)
-  wide_counted peer serial nodes each = each_with (IsWide width) (counted peer) (λ n w. length-set n.counts peer (count_of n peer + 1) ∙ w) nodes serial each
+  wide_counted peer serial nodes each = each_counted (IsWide width) peer (wide_closed.more peer) serial nodes each
 
-  wide_uncounted : (peer k serial : ℕ) (nodes : Nodes) → Wide nodes → Wide (with_node serial (uncounted peer k) nodes)
-  wide_uncounted peer k serial nodes each = each_with (IsWide width) (uncounted peer k) (λ n w. length-set n.counts peer (count_of n peer - k) ∙ w) nodes serial each
-
-  at_begin : (r : Option Reason) (memory : Bool) (c : SendCmd) (x : PeerPart) → x.peers ≡ width → Wide x.nodes → Wide (begin_by r memory c x).1.nodes
-  at_begin (Some r) memory c x same each = each
-  at_begin None true c x same each = each
-  at_begin None false c x same each = subst (λ w. Wide (fold (λ ns number. with_made w number ns) x.nodes (filter is_own c.with))) (sym same) (all_wide (filter is_own c.with) x.nodes each)
-
-  at_attach : (a : Attach) (x : PeerPart) (serial dest : ℕ) → Wide x.nodes → Wide (attached_by a x serial dest).nodes
-  at_attach attach.Counted x serial dest each = wide_counted dest serial x.nodes each
-  at_attach attach.Own x serial dest each = each
-  at_attach (attach.Void stamp) x serial dest each = each
-
-  at_drop : (b : Bool) (x : PeerPart) (serial holder k clock : ℕ) → Wide x.nodes → Wide (with_release_notice b (dropped_refs x serial holder k clock) serial).nodes
-  at_drop false x serial holder k clock each = wide_uncounted holder k serial x.nodes each
-  at_drop true x serial holder k clock each = wide_uncounted holder k serial x.nodes each
-
-  at_destroy : (r : Option Reason) (doomed : List ℕ) (x : PeerPart) → Wide x.nodes → Wide (destroy_by r doomed x).1.nodes
-  at_destroy (Some r) doomed x each = each
-  at_destroy None doomed x each = each_all (IsWide width) (in_state Dying) (λ n w. w) doomed x.nodes each
-
-  at_doom : (late : List ℕ) (x : PeerPart) (collected : ℕ) (doomed : List ℕ) → Wide x.nodes → Wide (doom_by late x collected doomed).nodes
-  at_doom [] x collected doomed each = each_all (IsWide width) (in_state (Destroyed (final_stamp x collected))) (λ n w. w) doomed x.nodes each
-  at_doom (peer ∷ rest) x collected doomed each = each
-
-  at_recv : (old new : Nodes) → TakenFrom old new → Wide old → Wide new
-  at_recv old new (inl same) each = subst Wide (sym same) each
-  at_recv old new (inr (serial, same)) each = subst Wide (sym same) (each_with (IsWide width) notice_taken (λ n w. w) old serial each)
-
-  by_same : (x y : PeerPart) → y.nodes ≡ x.nodes → Wide x.nodes → Wide y.nodes
-  by_same x y same each = subst Wide (sym same) each
-
-  -- each event keeps it
   pub wide_after : (o : Opening) (memory : Bool) (d : DriverPart) (doing : Doing) (action : Action) (x : PeerPart) → x.peers ≡ width → Wide x.nodes → Wide (happens o memory d doing action x).1.nodes
-  wide_after o memory d doing act.Begin x same each = at_begin (send_refusal x (send_of doing.command)) memory (send_of doing.command) x same each
-  wide_after o memory d doing (act.Attach peer serial dest) x same each = at_attach (attach_answer x serial dest) x serial dest each
-  wide_after o memory d doing act.Recv x same each = at_recv x.nodes (received_part x).nodes (recv_nodes x) each
-  wide_after o memory d doing (act.DropRefs peer serial holder k clock) x same each = at_drop (is_released (dropped_refs x serial holder k clock) serial) x serial holder k clock each
-  wide_after o memory d doing act.BeginDestroy x same each = at_destroy (begin_refusal doing.command x) (begin_serials doing.command x) x each
-  wide_after o memory d doing act.StampDestroy x same each = at_doom x.late x (collected_of doing.phase) (doomed_of doing.phase) each
-  wide_after o memory d doing act.Rest x same each = each
-  wide_after o memory d doing (act.Stage peer place) x same each = by_same x (happens o memory d doing (act.Stage peer place) x).1 (ap (λ y. y.nodes) (changes o memory d doing (act.Stage peer place) x)) each
-  wide_after o memory d doing (act.Unstage peer place) x same each = by_same x (happens o memory d doing (act.Unstage peer place) x).1 (ap (λ y. y.nodes) (changes o memory d doing (act.Unstage peer place) x)) each
-  wide_after o memory d doing act.Stamp x same each = each
-  wide_after o memory d doing (act.Sync peer stamp) x same each = each
-  wide_after o memory d doing (act.Commit peer place stamp) x same each = by_same x (happens o memory d doing (act.Commit peer place stamp) x).1 (ap (λ y. y.nodes) (changes o memory d doing (act.Commit peer place stamp) x)) each
-  wide_after o memory d doing (act.CommitNotices peer stamp) x same each = each
-  wide_after o memory d doing act.Reap x same each = each
-  wide_after o memory d doing act.Release x same each = by_same x (happens o memory d doing act.Release x).1 (ap (λ y. y.nodes) (changes o memory d doing act.Release x)) each
-  wide_after o memory d doing (act.Visit peer) x same each = by_same x (happens o memory d doing (act.Visit peer) x).1 (ap (λ y. y.nodes) (changes o memory d doing (act.Visit peer) x)) each
-  wide_after o memory d doing act.Flush x same each = each
-  wide_after o memory d doing act.Local x same each = by_same x (happens o memory d doing act.Local x).1 (ap (λ y. y.nodes) (changes o memory d doing act.Local x)) each
+  wide_after o memory d doing action x same each = each_after width (IsWide width) wide_closed o memory d doing action x same each

@@ -3,6 +3,7 @@ use Rattle.std.proofs.Common.{◌≡◌, ◌≢◌, ◌⊎◌, refl, sym, ap, �
 use Rattle.std.specs.Prelude.{slice_get}
 use Rattle.std.proofs.lemmas.Bool.{cases_eq, eq-eqb, ne_eqb}
 use Rattle.std.proofs.lemmas.List.{length-set}
+use Rattle.std.proofs.lemmas.Option.{same_Some}
 use native.Mathlib.Omega.{arith}
 use Rattle.b1_model.specs.declared.naming.NodeRef.{NodeRef}
 use Rattle.b1_model.specs.declared.naming.Wire.{Wire}
@@ -67,9 +68,6 @@ pub record Wiring (n : ℕ) (held : List Wire) (xs : Peers) : Type 0 where
 
 -- ---- reading changed parts
 
-some_same : {A : Type 0} (x y : A) → Some x ≡ Some y → x ≡ y
-some_same x y same = cc same
-
 -- one part changes
 pub read_part : (xs : Peers) (i q : ℕ) (f : PeerPart → PeerPart) → slice_get (with_part i f xs) q ≡ option_map (λ x. cond (q == i) (f x) x) (slice_get xs q)
 read_part xs i q f = at (cases_eq q i)
@@ -82,7 +80,7 @@ read_part xs i q f = at (cases_eq q i)
     here [] i v None is same = refl
     here [] i v (Some x) is same = absurd (cc is)
     here (y ∷ xs) zero v None is same = absurd (cc is)
-    here (y ∷ xs) zero v (Some x) is same = ap Some (same ∙ ap f (some_same y x is))
+    here (y ∷ xs) zero v (Some x) is same = ap Some (same ∙ ap f (same_Some y x is))
     here (y ∷ xs) (suc i) v r is same = here xs i v r is same
 
     at : (q ≡ i) ⊎ (q ≡ i → ⊥) → slice_get (with_part i f xs) q ≡ option_map (λ x. cond (q == i) (f x) x) (slice_get xs q)
@@ -104,7 +102,7 @@ module _ (xs ys : Peers) (change : ℕ → PeerPart → PeerPart) (reads : (q : 
     where
       at : (r : Option PeerPart) → slice_get xs q ≡ r → option_map (change q) r ≡ Some y → (x : PeerPart) × (slice_get xs q ≡ Some x) × (y ≡ change q x)
       at None found here = absurd (cc here)
-      at (Some x) found here = (x, found, sym (some_same (change q x) y here))
+      at (Some x) found here = (x, found, sym (same_Some (change q x) y here))
 
   pub forth : (q : ℕ) (x : PeerPart) → slice_get xs q ≡ Some x → slice_get ys q ≡ Some (change q x)
   forth q x is = reads q ∙ ap (option_map (change q)) is

@@ -1,6 +1,7 @@
 -- Each staged message keeps its open SEND through each step, and each place stands staged once.
 use Rattle.std.proofs.Common.{◌≡◌, ◌≢◌, ◌⊎◌, refl, sym, ap, ◌∙◌, inl, inr, subst, ℕ, ◌%◌, Bool, true, false, cond, List, [], ◌∷◌, length, Option, Some, Ok}
 use Rattle.std.proofs.lemmas.Bool.{cases_eq, false_from_ne_true, ne_eqb}
+use Rattle.std.proofs.lemmas.Option.{same_Some}
 use native.Mathlib.Omega.{arith}
 use Rattle.b1_model.specs.declared.naming.Key.{Key}
 use Rattle.b1_model.specs.declared.naming.NodeRef.{NodeRef}
@@ -34,9 +35,6 @@ use Rattle.b1_inv_tools.proofs.Comes.{Comes}
 use Rattle.b1_inv_tools.proofs.Openings.{opening_each}
 use Rattle.b1_inv_sends.proofs.Once.{stage_parts, notice_is, Fresh, event_once}
 use Rattle.b1_inv_sends.proofs.Waits.{WaitsOn, stops, new_waits, event_waits, drop_waits, Waiting, turn_waits, stops_at, stopped_leaves}
-
-some_same : {A : Type 0} (x y : A) → Some x ≡ Some y → x ≡ y
-some_same x y same = cc same
 
 -- ---- the opening
 
@@ -144,10 +142,10 @@ module _ {o : Opening} {s : State} {p : ℕ} {command : Option Command} {t : Sta
   -- what is open of driver p before the step is what its event is of
   pub same_doing : (d : DriverPart) (doing : Doing) → IsDriver s p d → d.doing ≡ Some doing → doing ≡ event.doing
   same_doing d doing is_driver is_open =
-      let same : d ≡ step.driver = some_same d step.driver (sym is_driver ∙ step.is_driver) in
+      let same : d ≡ step.driver = same_Some d step.driver (sym is_driver ∙ step.is_driver) in
       let now = sym (ap (λ e. e.doing) same) ∙ is_open in
       elim event.opened.from [
-        | inl before ↦ some_same doing event.doing (sym now ∙ before)
+        | inl before ↦ same_Some doing event.doing (sym now ∙ before)
         | inr (rests, begins, starts) ↦ absurd (cc (sym now ∙ rests))
       ]
 

@@ -1,14 +1,13 @@
 -- The queue as a set: which entries an event brings, and that all others stood there before.
-use Rattle.std.proofs.Common.{◌≡◌, ◌≢◌, ◌⊎◌, refl, sym, ap, ◌∙◌, inl, inr, subst, ℕ, zero, suc, ◌+◌, max, Bool, true, false, cond, not, List, [], ◌∷◌, map, filter, drop, length, Option, Some, None}
+use Rattle.std.proofs.Common.{◌≡◌, ◌⊎◌, refl, ap, ◌∙◌, inl, inr, subst, ℕ, zero, suc, ◌+◌, max, Bool, true, false, not, List, [], ◌∷◌, map, filter, drop, length, Option, Some, None}
 use Rattle.std.specs.Prelude.{slice_get}
+use Rattle.std.proofs.lemmas.Bool.{not-true}
 use native.Mathlib.Omega.{arith}
 use Rattle.b1_model.specs.declared.naming.Key.{Key}
 use Rattle.b1_model.specs.declared.naming.NodeRef.{NodeRef}
 use Rattle.b1_model.specs.declared.naming.Opening.{Opening}
-use Rattle.b1_model.specs.declared.commands.Command.{Command}
 use Rattle.b1_model.specs.declared.parts.Attach.{Attach}
 use Rattle.b1_model.specs.declared.parts.Attach.TheVariants as attach
-use Rattle.b1_model.specs.declared.parts.Slot.{Slot}
 use Rattle.b1_model.specs.declared.parts.Slot.TheVariants as slot
 use Rattle.b1_model.specs.declared.entries.Entry.{Entry}
 use Rattle.b1_model.specs.declared.entries.Entry.TheVariants.{Message, OwnNotice, ForeignNotice, ReleaseNotice}
@@ -18,10 +17,10 @@ use Rattle.b1_model.specs.declared.events.Action.TheVariants as act
 use Rattle.b1_model.specs.declared.events.Doing.{Doing}
 use Rattle.b1_model.specs.MachineParts.{PeerPart, DriverPart, no_origin, is_release_notice}
 use Rattle.b1_model.specs.MachinePool.{slice_len, taken_offset}
-use Rattle.b1_model.specs.MachineTables.{put, without, is_stage, is_staged_notice}
+use Rattle.b1_model.specs.MachineTables.{without, is_stage, is_staged_notice}
 use Rattle.b1_model.specs.MachineSend.{find_stage, unstaged_by, attached_by, attach_answer, committed_by, with_slots, with_stamp, notices_committed}
-use Rattle.b1_model.specs.MachineReceive.{with_release_notice, is_released, dropped_refs, received_part}
-use Rattle.b1_model.specs.MachineDestroy.{with_own_notices, needs_notice, notice_by, with_foreign_notice, visited_from}
+use Rattle.b1_model.specs.MachineReceive.{with_release_notice, is_released, dropped_refs}
+use Rattle.b1_model.specs.MachineDestroy.{with_own_notices, needs_notice, notice_by, visited_from}
 use Rattle.b1_model.specs.MachineDriver.{node_of_place, send_of}
 use Rattle.b1_model.specs.MachineEvents.{happens, stage_by, destroy_by, begun_of, slots_at, user_of, doomed_of, begin_refusal, begin_serials}
 use Rattle.b1_step.specs.Rights.{Has}
@@ -59,13 +58,9 @@ leaves d action f = false
 abbrev pub ComesOrWas : Opening → DriverPart → Doing → PeerPart → Action → Key × Entry → Type 0
 ComesOrWas o d doing x action f = (Has x.queue f × (leaves d action f ≡ false)) ⊎ Comes o d doing x action f
 
-not_true : (b : Bool) → not b ≡ true → b ≡ false
-not_true true is = absurd (cc is)
-not_true false is = refl
-
 -- what stays doesn't pass
 pub without_fails : (test : Key × Entry → Bool) (queue : List (Key × Entry)) (f : Key × Entry) → Has (without test queue) f → Has queue f × (test f ≡ false)
-without_fails test queue f h = let k = filter_has (λ g. not (test g)) queue f h in (k.0, not_true (test f) k.1)
+without_fails test queue f h = let k = filter_has (λ g. not (test g)) queue f h in (k.0, not-true (test f) k.1)
 
 pub has_drop : {A : Type 0} (n : ℕ) (xs : List A) (x : A) → Has (drop n xs) x → Has xs x
 has_drop zero xs x h = h

@@ -1,5 +1,5 @@
 -- A peer's nodes only grow in number, so what was made stays made.
-use Rattle.std.proofs.Common.{◌≡◌, ◌≢◌, ◌⊎◌, refl, sym, ap, ◌∙◌, inl, inr, subst, ℕ, ◌+◌, ◌<◌, ◌≤◌, Bool, true, false, List, [], ◌∷◌, ◌++◌, set, fold, filter, length, Option, Some, None}
+use Rattle.std.proofs.Common.{◌≡◌, refl, sym, ap, ◌∙◌, inl, inr, ℕ, ◌≤◌, Bool, true, false, List, [], ◌∷◌, ◌++◌, fold, filter, length, Option, Some, None}
 use Rattle.std.specs.Prelude.{slice_get}
 use Rattle.std.proofs.lemmas.Bool.{cases_eq}
 use Rattle.std.proofs.lemmas.List.{length-set, length-append}
@@ -25,7 +25,7 @@ use Rattle.b1_model.specs.MachineDriver.{send_of}
 use Rattle.b1_model.specs.MachineEvents.{happens, begin_by, destroy_by, begin_refusal, begin_serials, collected_of, doomed_of}
 use Rattle.b1_model.specs.MachineStep.{Step}
 use Rattle.b1_step.proofs.Changed.{changes}
-use Rattle.b1_inv.specs.Words.{IsPeer, IsMade}
+use Rattle.b1_inv.specs.Words.{IsMade}
 use Rattle.b1_inv_tools.proofs.Received.{recv_rests}
 use Rattle.b1_inv_tools.proofs.Leaves.{step_did, new_peer, same_peer}
 

@@ -1,31 +1,22 @@
 -- What a step leaves: the two parts that it changes, all other parts, and the nodes that were made.
-use Rattle.std.proofs.Common.{◌≡◌, ◌≢◌, ◌⊎◌, refl, sym, ap, ◌∙◌, inl, inr, subst, ℕ, suc, ◌+◌, ◌<◌, ◌≤◌, Bool, true, false, cond, List, [], ◌∷◌, ◌++◌, set, fold, zip, length, Option, Some, None, option_map}
+use Rattle.std.proofs.Common.{◌≡◌, ◌≢◌, ◌⊎◌, refl, sym, ap, ◌∙◌, inl, inr, subst, ℕ, Bool, true, false, Option, Some, None, option_map}
 use Rattle.std.specs.Prelude.{slice_get}
-use Rattle.std.proofs.lemmas.Bool.{cases_eq}
-use Rattle.std.proofs.lemmas.List.{length-set, length-append}
-use native.Mathlib.Omega.{arith}
-use Rattle.b1_model.specs.declared.naming.Key.{Key}
-use Rattle.b1_model.specs.declared.naming.NodeRef.{NodeRef}
+use Rattle.std.proofs.lemmas.Option.{same_Some}
 use Rattle.b1_model.specs.declared.naming.Opening.{Opening}
 use Rattle.b1_model.specs.declared.commands.Command.{Command}
 use Rattle.b1_model.specs.declared.answers.Answer.{Answer}
 use Rattle.b1_model.specs.declared.events.Action.{Action}
-use Rattle.b1_model.specs.declared.events.Outcome.{Outcome}
 use Rattle.b1_model.specs.declared.events.Phase.{Phase}
 use Rattle.b1_model.specs.declared.events.Phase.TheVariants.{Starting}
 use Rattle.b1_model.specs.declared.events.Doing.{Doing}
 use Rattle.b1_model.specs.MachineParts.{PeerPart, DriverPart, State}
 use Rattle.b1_model.specs.MachineDriver.{next_action, peer_of, Turn, Goes, Ends, turn}
-use Rattle.b1_model.specs.MachineTook.{ended, goes_by, is_done, answer_of, turned, with_facts, took_by, took}
+use Rattle.b1_model.specs.MachineTook.{goes_by, is_done, answer_of, turned, with_facts, took_by, took}
 use Rattle.b1_model.specs.MachineEvents.{happens}
-use Rattle.b1_model.specs.MachineStep.{LocalStep, Step, begun_by, begun, aimed, target, done_by, effect_by, effect}
-use Rattle.b1_step.specs.Fixed.{IsNumbered}
-use Rattle.b1_step.proofs.Lists.{read_same, read_other, set_cases}
+use Rattle.b1_model.specs.MachineStep.{Step, begun_by, begun, aimed, target, done_by, effect_by, effect}
+use Rattle.b1_step.proofs.Lists.{set_cases}
 use Rattle.b1_step.proofs.Locality.{own_driver, other_driver, at_peer, other_peer}
-use Rattle.b1_inv.specs.Words.{IsPeer, IsDriver, IsMade}
-
-some_same : {A : Type 0} (x y : A) → Some x ≡ Some y → x ≡ y
-some_same x y same = cc same
+use Rattle.b1_inv.specs.Words.{IsPeer, IsDriver}
 
 -- ---- the driver's part with its open command, or with the one that begins
 
@@ -43,10 +34,10 @@ pub record Opened (d : DriverPart) (command : Option Command) (e : DriverPart) (
 opened_by : (d e : DriverPart) (doing : Option Doing) (command : Option Command) → d.doing ≡ doing → begun_by d doing command ≡ Some e → (one : Doing) × Opened d command e one
 opened_by d e None None is_doing is = absurd (cc is)
 opened_by d e None (Some c) is_doing is =
-    let same : record d { doing = Some (record { command = c; phase = Starting }) } ≡ e = some_same _ e is in
+    let same : record d { doing = Some (record { command = c; phase = Starting }) } ≡ e = same_Some _ e is in
     (record { command = c; phase = Starting }, subst (λ z. Opened d (Some c) z (record { command = c; phase = Starting })) same (record { me = refl; calls = refl; shut = refl; owed = refl; told = refl; attempted = refl; is_open = refl; from = inr (is_doing, refl, refl) }))
 opened_by d e (Some doing) None is_doing is =
-    let same : d ≡ e = some_same d e is in
+    let same : d ≡ e = same_Some d e is in
     (doing, subst (λ z. Opened d None z doing) same (record { me = refl; calls = refl; shut = refl; owed = refl; told = refl; attempted = refl; is_open = is_doing; from = inl is_doing }))
 opened_by d e (Some doing) (Some c) is_doing is = absurd (cc is)
 
@@ -79,7 +70,7 @@ module _ (o : Opening) (memory : Bool) (d : DriverPart) (command : Option Comman
   did_by None is_begun is_target = absurd (cc is_target)
   did_by (Some e) is_begun is_target =
       let found = opened_by d e d.doing command refl is_begun in
-      did_with e found.0 is_begun found.1 (some_same (aimed e) (action, at) is_target)
+      did_with e found.0 is_begun found.1 (same_Some (aimed e) (action, at) is_target)
 
   pub did : target d command ≡ Some (action, at) → Did o memory d command x action at f y
   did is_target = did_by (begun d command) refl is_target
@@ -113,8 +104,8 @@ module _ {o : Opening} {s : State} {p : ℕ} {command : Option Command} {t : Sta
 -- ---- what a turn leaves open
 
 open_by_flag : (b : Bool) (got : Option Answer) (d : DriverPart) (command : Command) (phase : Phase) (doing : Doing) → (goes_by b got d command phase).doing ≡ Some doing → (doing.command ≡ command) × (doing.phase ≡ phase)
-open_by_flag false got d command phase doing is = let same : record { command = command; phase = phase } ≡ doing = some_same _ doing is in (sym (ap (λ z. z.command) same), sym (ap (λ z. z.phase) same))
-open_by_flag true None d command phase doing is = let same : record { command = command; phase = phase } ≡ doing = some_same _ doing is in (sym (ap (λ z. z.command) same), sym (ap (λ z. z.phase) same))
+open_by_flag false got d command phase doing is = let same : record { command = command; phase = phase } ≡ doing = same_Some _ doing is in (sym (ap (λ z. z.command) same), sym (ap (λ z. z.phase) same))
+open_by_flag true None d command phase doing is = let same : record { command = command; phase = phase } ≡ doing = same_Some _ doing is in (sym (ap (λ z. z.command) same), sym (ap (λ z. z.phase) same))
 open_by_flag true (Some got) d command phase doing is = absurd (cc is)
 
 -- where a command is open after an event, it is the same, in the phase that the event led to

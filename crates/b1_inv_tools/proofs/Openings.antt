@@ -1,11 +1,12 @@
 -- What holds of every part when a bus begins.
-use Rattle.std.proofs.Common.{◌≡◌, ◌≢◌, ◌⊎◌, refl, sym, ap, ◌∙◌, inl, inr, subst, ℕ, zero, suc, ◌+◌, true, false, cond, List, [], ◌∷◌, fold, get_or, Option, Some, None}
+use Rattle.std.proofs.Common.{◌≡◌, refl, subst, ℕ, zero, suc, ◌+◌, List, [], ◌∷◌, fold, get_or, Option, Some, None}
 use Rattle.std.specs.Prelude.{slice_get}
+use Rattle.std.proofs.lemmas.Option.{same_Some}
 use Rattle.b1_model.specs.declared.naming.NodeRef.{NodeRef}
 use Rattle.b1_model.specs.declared.naming.PeerSpec.{PeerSpec}
 use Rattle.b1_model.specs.declared.naming.Wire.{Wire}
 use Rattle.b1_model.specs.declared.naming.Opening.{Opening}
-use Rattle.b1_model.specs.MachineParts.{PeerPart, DriverPart, State}
+use Rattle.b1_model.specs.MachineParts.{PeerPart, DriverPart}
 use Rattle.b1_model.specs.MachineTables.{node_named}
 use Rattle.b1_model.specs.MachineStep.{no_peer, with_part, wire_made, wire_counted, wire_held, wired, peer_before, peers_before, idle_driver, idle_drivers, opening_state}
 use Rattle.b1_step.proofs.InOrder.{each_with_part}
@@ -13,9 +14,6 @@ use Rattle.b1_inv.specs.Words.{IsPeer, IsDriver}
 
 abbrev Each : (PeerPart → Type 0) → List PeerPart → Type 0
 Each P xs = (q : ℕ) (x : PeerPart) → slice_get xs q ≡ Some x → P x
-
-some_same : {A : Type 0} (x y : A) → Some x ≡ Some y → x ≡ y
-some_same x y same = cc same
 
 module _ (P : PeerPart → Type 0)
     (made : (number : ℕ) (x : PeerPart) → P x → P (wire_made number x))
@@ -36,7 +34,7 @@ module _ (P : PeerPart → Type 0)
 
   before_wires : (o : Opening) → ((me : ℕ) (spec : PeerSpec) → P (peer_before o me spec)) → (here : ℕ) (specs : List PeerSpec) → Each P (peers_before o here specs)
   before_wires o first here [] q x is = absurd (cc is)
-  before_wires o first here (spec ∷ rest) zero x is = subst P (some_same _ x is) (first here spec)
+  before_wires o first here (spec ∷ rest) zero x is = subst P (same_Some _ x is) (first here spec)
   before_wires o first here (spec ∷ rest) (suc q) x is = before_wires o first (here + 1) rest q x is
 
   -- a fact of every part before the wires that each wire keeps
@@ -45,7 +43,7 @@ module _ (P : PeerPart → Type 0)
 
 idle_from : (here : ℕ) (specs : List PeerSpec) (p : ℕ) (d : DriverPart) → slice_get (idle_drivers here specs) p ≡ Some d → d ≡ idle_driver d.me
 idle_from here [] p d is = absurd (cc is)
-idle_from here (spec ∷ rest) zero d is = let same : idle_driver here ≡ d = some_same _ d is in subst (λ e. e ≡ idle_driver e.me) same refl
+idle_from here (spec ∷ rest) zero d is = let same : idle_driver here ≡ d = same_Some _ d is in subst (λ e. e ≡ idle_driver e.me) same refl
 idle_from here (spec ∷ rest) (suc p) d is = idle_from (here + 1) rest p d is
 
 -- no command is open, and nothing is owed

@@ -1,6 +1,6 @@
 -- What a RECV leaves of the queue and of the nodes: a rest of the one, and as many of the other.
-use Rattle.std.proofs.Common.{◌≡◌, ◌⊎◌, refl, sym, ap, ◌∙◌, inl, inr, ℕ, zero, suc, ◌+◌, Bool, true, false, cond, List, [], ◌∷◌, ◌++◌, drop, fold, zip, length, set}
-use Rattle.std.proofs.lemmas.List.{length-set, drop-drop}
+use Rattle.std.proofs.Common.{◌≡◌, refl, sym, ◌∙◌, ℕ, zero, suc, Bool, true, false, List, [], ◌∷◌, drop, fold, zip, length}
+use Rattle.std.proofs.lemmas.List.{length-set}
 use Rattle.b1_model.specs.declared.naming.Key.{Key}
 use Rattle.b1_model.specs.declared.naming.NodeRef.{NodeRef}
 use Rattle.b1_model.specs.declared.parts.Slot.{Slot}
@@ -9,7 +9,6 @@ use Rattle.b1_model.specs.declared.entries.Entry.{Entry}
 use Rattle.b1_model.specs.declared.entries.Entry.TheVariants.{Message, OwnNotice, ForeignNotice, ReleaseNotice}
 use Rattle.b1_model.specs.MachineParts.{PeerPart, is_staged, record_or_none}
 use Rattle.b1_model.specs.MachineReceive.{Arriving, discards, discarded, cleared, reference_by, slot_arrives, taken_entry, front_by, front_taken, received_part}
-use Rattle.b1_step.specs.Rights.{Has}
 
 -- the same queue, and as many nodes
 abbrev pub AsMany : PeerPart → PeerPart → Type 0

@@ -25,6 +25,7 @@ use Rattle.b1_inv_refs.proofs.Laying.{numbers_opening, flights_opening, referenc
 use Rattle.b1_inv_refs.proofs.Referring.{references_kept}
 use Rattle.b1_inv_bounds.proofs.Bounded.{bounds_kept}
 use Rattle.b1_inv_bounds.proofs.Opened.{bounds_opening}
+use Rattle.b1_inv_receipts.proofs.Kept.{receipts_begin, receipts_kept}
 
 module _ {o : Opening} {s : State} {p : ℕ} {command : Option Command} {t : State} (up : HandlesRise s) (step : Step o s p command t) where
   by_peer : (q : ℕ) (y : PeerPart) → ((q ≡ step.at) × (y ≡ step.new_peer)) ⊎ ((q ≢ step.at) × (slice_get s.peers q ≡ Some y)) → Rising y.handles
@@ -50,6 +51,7 @@ opening_sound o valid = record {
   references = references_opening o valid;
   bounds = bounds_opening o;
   clocks = clocks_begin o valid;
+  receipts = receipts_begin o;
 }
 
 pub step_sound : (o : Opening) (s : State) (p : ℕ) (command : Option Command) (t : State) → IsSound o s → Step o s p command t → IsSound o t
@@ -68,6 +70,7 @@ step_sound o s p command t sound step = record {
   references = references_kept sound step;
   bounds = bounds_kept sound step;
   clocks = clocks_kept sound step;
+  receipts = receipts_kept sound step;
 }
 
 led_sound : (o : Opening) (steps : List Label) (s t : State) → IsSound o s → Leads o s steps t → IsSound o t

@@ -2,6 +2,7 @@
 use Rattle.std.specs.Prelude.{◌≡◌, refl, ℕ, zero, suc, ◌+◌, ◌-◌, ◌<◌, ◌≤◌, ◌⊎◌, true, false, List, [], ◌∷◌, length, take, slice_get, Option, Some, None}
 use Rattle.std.proofs.lemmas.Option.{slice_get_within, same_Some}
 use Rattle.std.proofs.Common.{arith, inl, inr, subst, sym, ap, ◌∙◌}
+use Rattle.std.proofs.lemmas.Bool.{and_parts}
 use Rattle.b1_model.specs.declared.naming.Key.{Key}
 use Rattle.b1_model.specs.declared.naming.Wire.{Wire}
 use Rattle.b1_model.specs.declared.naming.Opening.{Opening}
@@ -13,7 +14,7 @@ use Rattle.b1_model.specs.declared.records.Record.{Record}
 use Rattle.b1_model.specs.Names.{Node, calls_of, is_flush, next_epoch, epoch_in, epoch_at}
 use Rattle.b1_model.specs.Ledger.{stamp_of, got_key, is_below, Message, message, doomed_at}
 use Rattle.b1_model.specs.Legal.{last_after, last_key, is_above, is_message_in, is_message, is_notice_of, is_notice, is_candidate, IsNextReceipt, Legal}
-use Rattle.b1_ledger.proofs.Sequences.{and_true, or_true, option_cases}
+use Rattle.b1_ledger.proofs.Sequences.{or_true, option_cases}
 use Rattle.b1_ledger.proofs.KeyOrder.{below-below}
 use Rattle.b1_ledger.proofs.Plain.{notice_source, message_source}
 use Rattle.b1_ledger.proofs.Steps.{last_next, epoch_next}
@@ -53,8 +54,8 @@ reaches_above (Some l) x y (inr e) a = below-below x l y e a
 
 module _ (o : Opening) (r : Record) (legal : Legal o r) (p : ℕ) where
   pub reaches_after : (k : ℕ) (l : Option Key) (x : Key) (b : Answer) → l ≡ last_key r p k → is_flush b ≡ false → IsNextReceipt o.wires r p k b → Reaches l x → Reaches (last_after l b) x
-  reaches_after k l x (ans.Got (rec.Message key number offset handles payload)) e f next h = inr (reaches_above l x key h (rw e (and_true (is_above key (last_key r p k)) (is_message_in o.wires r p k key (message o.wires r key.stamp key.origin)) next.0).0))
-  reaches_after k l x (ans.Got (rec.Destroyed key number)) e f next h = inr (reaches_above l x key h (rw e (and_true (is_above key (last_key r p k)) (is_notice_of o.wires r p k (doomed_at o.wires r key)) next.0).0))
+  reaches_after k l x (ans.Got (rec.Message key number offset handles payload)) e f next h = inr (reaches_above l x key h (rw e (and_parts (is_above key (last_key r p k)) (is_message_in o.wires r p k key (message o.wires r key.stamp key.origin)) next.0).0))
+  reaches_after k l x (ans.Got (rec.Destroyed key number)) e f next h = inr (reaches_above l x key h (rw e (and_parts (is_above key (last_key r p k)) (is_notice_of o.wires r p k (doomed_at o.wires r key)) next.0).0))
   reaches_after k l x (ans.Reset stamp) e f next h = cc f
   reaches_after k l x b e f next h = h
 
@@ -83,8 +84,8 @@ module _ (o : Opening) (r : Record) (legal : Legal o r) (p : ℕ) where
       (reaches i n b x at g (omega (arith, l)) same)))
 
   pub receipt_above : (k : ℕ) (b : Answer) (y : Key) → got_key b ≡ Some y → IsNextReceipt o.wires r p k b → is_above y (last_key r p k) ≡ true
-  receipt_above k (ans.Got (rec.Message key number offset handles payload)) y e next = subst (λ z. is_above z (last_key r p k) ≡ true) (same_Some key y e) (and_true (is_above key (last_key r p k)) (is_message_in o.wires r p k key (message o.wires r key.stamp key.origin)) next.0).0
-  receipt_above k (ans.Got (rec.Destroyed key number)) y e next = subst (λ z. is_above z (last_key r p k) ≡ true) (same_Some key y e) (and_true (is_above key (last_key r p k)) (is_notice_of o.wires r p k (doomed_at o.wires r key)) next.0).0
+  receipt_above k (ans.Got (rec.Message key number offset handles payload)) y e next = subst (λ z. is_above z (last_key r p k) ≡ true) (same_Some key y e) (and_parts (is_above key (last_key r p k)) (is_message_in o.wires r p k key (message o.wires r key.stamp key.origin)) next.0).0
+  receipt_above k (ans.Got (rec.Destroyed key number)) y e next = subst (λ z. is_above z (last_key r p k) ≡ true) (same_Some key y e) (and_parts (is_above key (last_key r p k)) (is_notice_of o.wires r p k (doomed_at o.wires r key)) next.0).0
   receipt_above k b y e next = cc
 
   pub ascends : (i k : ℕ) (b d : Call) (x y : Key) → i < k → slice_get (calls_of r p) i ≡ Some b → slice_get (calls_of r p) k ≡ Some d → got_key b.answer ≡ Some x → got_key d.answer ≡ Some y → epoch_at r p k ≡ epoch_at r p i → is_below x y ≡ true
@@ -102,8 +103,8 @@ module _ (o : Opening) (r : Record) (legal : Legal o r) (p : ℕ) where
 
 pub candidate_source : (ws : List Wire) (r : Record) (p k : ℕ) (key : Key) → is_candidate ws r p k key ≡ true → (i : ℕ) × (c : Call) × (slice_get (calls_of r key.origin) i ≡ Some c) × (stamp_of c.answer ≡ Some key.stamp)
 candidate_source ws r p k key h = elim (or_true (is_message ws r p k key) (is_notice ws r p k key) h) [
-  | inl m ↦ sent (option_cases (message ws r key.stamp key.origin)) (and_true (is_above key (last_key r p k)) (is_message_in ws r p k key (message ws r key.stamp key.origin)) m).1
-  | inr n ↦ doomed (option_cases (doomed_at ws r key)) (and_true (is_above key (last_key r p k)) (is_notice_of ws r p k (doomed_at ws r key)) n).1
+  | inl m ↦ sent (option_cases (message ws r key.stamp key.origin)) (and_parts (is_above key (last_key r p k)) (is_message_in ws r p k key (message ws r key.stamp key.origin)) m).1
+  | inr n ↦ doomed (option_cases (doomed_at ws r key)) (and_parts (is_above key (last_key r p k)) (is_notice_of ws r p k (doomed_at ws r key)) n).1
 ]
   where
     sent : ((message ws r key.stamp key.origin ≡ None) ⊎ ((m : Message) × (message ws r key.stamp key.origin ≡ Some m))) → is_message_in ws r p k key (message ws r key.stamp key.origin) ≡ true → (i : ℕ) × (c : Call) × (slice_get (calls_of r key.origin) i ≡ Some c) × (stamp_of c.answer ≡ Some key.stamp)

@@ -4,8 +4,9 @@ use Rattle.std.specs.List.{list_any}
 use Rattle.std.specs.Option.{option_flatten}
 use Rattle.std.proofs.lemmas.List.{length-append}
 use Rattle.std.proofs.lemmas.Option.{slice_get_within, same_Some}
-use Rattle.std.proofs.lemmas.Bool.{cases_eq}
+use Rattle.std.proofs.lemmas.Bool.{cases_eq, and_parts}
 use Rattle.std.proofs.Common.{arith, inl, inr, subst, sym, ap, ◌∙◌, append-nil}
+use Rattle.std.proofs.Math.Bool.{or-false}
 use Rattle.b1_model.specs.declared.naming.Key.{Key}
 use Rattle.b1_model.specs.declared.naming.Opening.{Opening}
 use Rattle.b1_model.specs.declared.commands.Command.{Command}
@@ -20,7 +21,7 @@ use Rattle.b1_model.specs.Names.{Node, same_node, Name, add_new, wired, calls_of
 use Rattle.b1_model.specs.Ledger.{stamp_of, got_key, is_before, is_below, Table, is_the_node, named, is_send, Destruction, has_node, is_destroyed_in, destroy_numbers, destruction_by, destructions_of, node_at, doomed_at, is_late_by}
 use Rattle.b1_model.specs.Legal.{KeepsOrder, IsNextReceipt, IsWhatWasSent, Legal}
 use Rattle.b1_ledger.specs.Growth.{Appends, destroy_stamp}
-use Rattle.b1_ledger.proofs.Sequences.{take-end, take-past, or_false, and_true, or_left, or_right, bool_cases}
+use Rattle.b1_ledger.proofs.Sequences.{take-end, take-past, or_left, or_right, bool_cases}
 use Rattle.b1_ledger.proofs.Walks.{made_in-append}
 use Rattle.b1_ledger.proofs.Stable.{call_same}
 use Rattle.b1_ledger.proofs.KeyOrder.{Below, not_of_below}
@@ -71,11 +72,11 @@ node_of_notice i (Some d) x e = (d, refl, has_node_at d.nodes i x (flat_some (sl
 -- a new destruction that is late for x at a key is before it and destroys x
 pub late_added : (p : ℕ) (known : List Name) (tab : Table) (earlier : List Destruction) (d : Command) (b : Answer) (stamp : ℕ) (x : Node) (key : Key) → destroy_stamp b ≡ Some stamp → list_any (is_late_by x key) (destruction_by p known tab earlier d b) ≡ true → (is_before stamp p key.stamp key.origin ≡ true) × (is_destroyed_in (destruction_by p known tab earlier d b) x ≡ true)
 late_added p known tab earlier d (ans.Destroyed s) stamp x key e h =
-    let both = and_true (is_before s p key.stamp key.origin) (has_node x (map (named p known tab) (destroy_numbers d))) (sym (or_false (is_before s p key.stamp key.origin && has_node x (map (named p known tab) (destroy_numbers d)))) ∙ h) in
+    let both = and_parts (is_before s p key.stamp key.origin) (has_node x (map (named p known tab) (destroy_numbers d))) (sym (or-false (is_before s p key.stamp key.origin && has_node x (map (named p known tab) (destroy_numbers d)))) ∙ h) in
     (subst (λ u. is_before u p key.stamp key.origin ≡ true) (same_Some s stamp e) both.0, rw both.1 refl)
 late_added p known tab earlier d (ans.Reset (Some s)) stamp x key e h =
     let nodes : List (Option Node) = map Some (filter (λ x. not (is_destroyed_in earlier x)) (nodes_from p 0 known)) in
-    let both = and_true (is_before s p key.stamp key.origin) (has_node x nodes) (sym (or_false (is_before s p key.stamp key.origin && has_node x nodes)) ∙ h) in
+    let both = and_parts (is_before s p key.stamp key.origin) (has_node x nodes) (sym (or-false (is_before s p key.stamp key.origin && has_node x nodes)) ∙ h) in
     (subst (λ u. is_before u p key.stamp key.origin ≡ true) (same_Some s stamp e) both.0, rw both.1 refl)
 late_added p known tab earlier d b stamp x key e h = cc
 

@@ -6,6 +6,7 @@ use Rattle.std.proofs.lemmas.List.{length-append}
 use Rattle.std.proofs.lemmas.List.Folds.{list_any-append, find-append}
 use Rattle.std.proofs.lemmas.Bool.{cases_eq}
 use Rattle.std.proofs.Common.{arith, inl, inr, subst, sym, ap, ◌∙◌, append-nil}
+use Rattle.std.proofs.Math.Bool.{or-false}
 use Rattle.b1_model.specs.declared.naming.Key.{Key}
 use Rattle.b1_model.specs.declared.naming.Wire.{Wire}
 use Rattle.b1_model.specs.declared.naming.Opening.{Opening}
@@ -19,7 +20,7 @@ use Rattle.b1_model.specs.Names.{Node, Name, calls_of, made}
 use Rattle.b1_model.specs.Ledger.{stamp_of, is_before, peers_of, Table, Message, is_send, sent_at, message_at, slots_by, message_within, message, table, Destruction, destruction_by, destructions_before, destructions_of, node_at, doomed_at, is_late_by, is_late}
 use Rattle.b1_model.specs.Legal.{IsWhatWasSent, Legal}
 use Rattle.b1_ledger.specs.Growth.{Extends, Appends}
-use Rattle.b1_ledger.proofs.Sequences.{slice_get-end, slice_get-more, each-of, list_any-flat_map, list_any-flat_map_more, or_false, or_left, bool_cases, option_cases}
+use Rattle.b1_ledger.proofs.Sequences.{slice_get-end, slice_get-more, each-of, list_any-flat_map, list_any-flat_map_more, or_left, bool_cases, option_cases}
 use Rattle.b1_ledger.proofs.Walks.{sent_at-append, sent_at-more}
 use Rattle.b1_ledger.proofs.Stable.{GoodIn, Keeps, message_same, destructions_before_same}
 
@@ -126,7 +127,7 @@ module _ (o : Opening) (r t : Record) (p : ℕ) (c : Call) (a : Appends r t p c)
       each : (q : ℕ) → list_any (is_late_by x key) (destructions_of o.wires t q) ≡ list_any (is_late_by x key) (destructions_of o.wires r q)
       each q = elim (cases_eq q p) [
         | inl e ↦ subst (λ y. list_any (is_late_by x key) (destructions_of o.wires t y) ≡ list_any (is_late_by x key) (destructions_of o.wires r y)) (sym e)
-            (ap (list_any (is_late_by x key)) destructions_here ∙ list_any-append (is_late_by x key) (destructions_of o.wires r p) added ∙ rw none (or_false (list_any (is_late_by x key) (destructions_of o.wires r p))))
+            (ap (list_any (is_late_by x key)) destructions_here ∙ list_any-append (is_late_by x key) (destructions_of o.wires r p) added ∙ rw none (or-false (list_any (is_late_by x key) (destructions_of o.wires r p))))
         | inr n ↦ ap (list_any (is_late_by x key)) (destructions_there q n)
       ]
 

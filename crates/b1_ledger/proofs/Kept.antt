@@ -2,6 +2,7 @@
 use Rattle.std.specs.Prelude.{◌≡◌, refl, ℕ, suc, ◌<◌, ◌≤◌, ◌⊎◌, Bool, true, false, not, ◌&&◌, ◌==◌, List, [], ◌∷◌, length, slice_get, Option, Some, None}
 use Rattle.std.proofs.lemmas.Option.{slice_get_within}
 use Rattle.std.proofs.Common.{arith, inl, inr, subst, sym, ap, ◌∙◌}
+use Rattle.std.proofs.lemmas.Bool.{and_parts, not-true}
 use Rattle.b1_model.specs.declared.naming.Key.{Key}
 use Rattle.b1_model.specs.declared.naming.Opening.{Opening}
 use Rattle.b1_model.specs.declared.answers.Receipt.TheVariants as rec
@@ -13,7 +14,7 @@ use Rattle.b1_model.specs.Names.{Node, Name, calls_of, made, epoch_at}
 use Rattle.b1_model.specs.Ledger.{got_key, is_below, Table, received, Message, to_at, is_entry, message, table, doomed_at, is_late}
 use Rattle.b1_model.specs.Legal.{last_key, is_above, is_open_to, is_message_in, is_message, is_notice_of, is_notice, is_candidate, arrives, arrived, notice_number, KeepsKeys, KeepsOrder, IsNextReceipt, KeepsPrefix, IsWhatWasSent, KeepsContents, Legal}
 use Rattle.b1_ledger.specs.Growth.{Appends, Names, message_key}
-use Rattle.b1_ledger.proofs.Sequences.{and_true, and_of, not_true, option_cases}
+use Rattle.b1_ledger.proofs.Sequences.{and_of, option_cases}
 use Rattle.b1_ledger.proofs.Stable.{Keeps, message_same, call_same, made_same, epoch_same, last_same, table_same}
 use Rattle.b1_ledger.proofs.Grows.{Found, found_of_message, keeps, old_or_new, unlate, doomed_stays}
 
@@ -58,7 +59,7 @@ module _ (o : Opening) (r t : Record) (p : ℕ) (c : Call) (a : Appends r t p c)
   -- a message candidate after the call was one before, where its message is the same
   pub is_message_was : (q k : ℕ) (key : Key) → k ≤ length (calls_of r q) → message o.wires t key.stamp key.origin ≡ message o.wires r key.stamp key.origin → is_message o.wires t q k key ≡ true → is_message o.wires r q k key ≡ true
   is_message_was q k key l e h =
-      let both = and_true (is_above key (last_key t q k)) (is_message_in o.wires t q k key (message o.wires t key.stamp key.origin)) h in
+      let both = and_parts (is_above key (last_key t q k)) (is_message_in o.wires t q k key (message o.wires t key.stamp key.origin)) h in
       and_of (is_above key (last_key r q k)) (is_message_in o.wires r q k key (message o.wires r key.stamp key.origin))
       (sym (ap (is_above key) (last_kept q k l)) ∙ both.0)
       (was (message o.wires r key.stamp key.origin) (sym (ap (is_message_in o.wires t q k key) e) ∙ both.1))
@@ -66,13 +67,13 @@ module _ (o : Opening) (r t : Record) (p : ℕ) (c : Call) (a : Appends r t p c)
       opens : (y : Option Node) → is_open_to o.wires t q k key y ≡ true → is_open_to o.wires r q k key y ≡ true
       opens None g = g
       opens (Some x) g =
-          let both = and_true (x.epoch == epoch_at t q k) (not (is_late o.wires t x key)) g in
+          let both = and_parts (x.epoch == epoch_at t q k) (not (is_late o.wires t x key)) g in
           and_of (x.epoch == epoch_at r q k) (not (is_late o.wires r x key)) (sym (ap (λ e. x.epoch == e) (epoch_kept q k l)) ∙ both.0)
-          (ap not (unlate o r t p c a legal x key (not_true (is_late o.wires t x key) both.1)))
+          (ap not (unlate o r t p c a legal x key (not-true (is_late o.wires t x key) both.1)))
 
       was : (z : Option Message) → is_message_in o.wires t q k key z ≡ true → is_message_in o.wires r q k key z ≡ true
       was None g = g
-      was (Some m) g = let both = and_true (is_entry q key.index m) (is_open_to o.wires t q k key (to_at m key.index)) g in
+      was (Some m) g = let both = and_parts (is_entry q key.index m) (is_open_to o.wires t q k key (to_at m key.index)) g in
           and_of (is_entry q key.index m) (is_open_to o.wires r q k key (to_at m key.index)) both.0 (opens (to_at m key.index) both.1)
 
   pub notice_of_same : (q k : ℕ) → k ≤ length (calls_of r q) → (y : Option Node) → is_notice_of o.wires t q k y ≡ is_notice_of o.wires r q k y
@@ -122,7 +123,7 @@ module _ (o : Opening) (r t : Record) (p : ℕ) (c : Call) (a : Appends r t p c)
       )
     where
       stays : k ≤ length (calls_of r q) → ((doomed_at o.wires r key ≡ None) ⊎ ((x : Node) × (doomed_at o.wires r key ≡ Some x))) → is_notice o.wires r q k key ≡ true → is_notice o.wires t q k key ≡ true
-      stays l (inl n) h = let both = and_true (is_above key (last_key r q k)) (is_notice_of o.wires r q k (doomed_at o.wires r key)) h in
+      stays l (inl n) h = let both = and_parts (is_above key (last_key r q k)) (is_notice_of o.wires r q k (doomed_at o.wires r key)) h in
           let none : is_notice_of o.wires r q k (doomed_at o.wires r key) ≡ false = ap (is_notice_of o.wires r q k) n in cc (none, both.1)
       stays l (inr s) h = is_notice_same q k key l (doomed_stays o r t p c a legal key s.0 s.1 ∙ sym s.1) ∙ h
   next_same q k d at fits b e next was = tt

@@ -16,13 +16,14 @@ use Rattle.b1_model.specs.Names.{is_own, is_given, Node, Name, is_known, add_new
 use Rattle.b1_model.specs.Ledger.{Line, Table, line_node, line_number, received, received_all, given_number, named, start, changed, table_in, Message, sent_at, message_by, message_of, message_at, to_at, is_accepted, is_node_of, is_entry, slots_in, slots_by, message_within, message, slots, table, node_of, Destruction, is_destroyed_in, destroy_numbers, destruction_by, add_destruction, destructions_before, destructions_of, node_at, doomed_at, is_late}
 use Rattle.b1_model.specs.Legal.{last_key, is_above, is_open_to, is_message_in, is_message, is_notice_of, is_notice, HasNoNext}
 use Rattle.b1_ledger.specs.Growth.{all_names, IsMade}
-use Rattle.b1_ledger.proofs.Sequences.{slice_get-append, take-more, take-past, Each, each-at, and_true, bool_cases}
+use Rattle.b1_ledger.proofs.Sequences.{slice_get-append, take-more, take-past, Each, each-at, bool_cases}
 use Rattle.b1_ledger.proofs.Walks.{made_in-append}
 use Rattle.b1_ledger.proofs.Steps.{table_next, epoch_next}
 use Rattle.b1_model.specs.Names.{node_from}
 use Rattle.b1_model.specs.Ledger.{has_line, raised, lowered, wire_tables, handed}
 use Rattle.std.specs.Prelude.{drop}
 use Rattle.std.proofs.lemmas.List.{take-append-drop}
+use Rattle.std.proofs.lemmas.Bool.{and_parts}
 
 abbrev pub IsMadeIn : (ℕ → List Name) → Option Node → Type 0
 IsMadeIn names None = ⊤
@@ -316,24 +317,24 @@ module _ (ws : List Wire) (r : Record) (q k : ℕ) (c : Call) (at : slice_get (c
       no_message : is_message ws r q (suc k) key ≡ false
       no_message = elim (bool_cases (is_message ws r q (suc k) key)) [
         | inr e ↦ e
-        | inl e ↦ absurd (none (message ws r key.stamp key.origin) refl (and_true (is_above key (last_key r q (suc k))) (is_message_in ws r q (suc k) key (message ws r key.stamp key.origin)) e).1)
+        | inl e ↦ absurd (none (message ws r key.stamp key.origin) refl (and_parts (is_above key (last_key r q (suc k))) (is_message_in ws r q (suc k) key (message ws r key.stamp key.origin)) e).1)
       ]
         where
           none : (z : Option Message) → message ws r key.stamp key.origin ≡ z → is_message_in ws r q (suc k) key z ≡ true → ⊥
           none None f g = cc g
           none (Some m) f g =
-              let both = and_true (is_entry q key.index m) (is_open_to ws r q (suc k) key (to_at m key.index)) g in
-              let owner = (and_true (is_accepted (slice_get m.places key.index)) (is_node_of q (to_at m key.index)) both.0).1 in
+              let both = and_parts (is_entry q key.index m) (is_open_to ws r q (suc k) key (to_at m key.index)) g in
+              let owner = (and_parts (is_accepted (slice_get m.places key.index)) (is_node_of q (to_at m key.index)) both.0).1 in
               shut (to_at m key.index) refl owner both.1
             where
               shut : (y : Option Node) → to_at m key.index ≡ y → is_node_of q y ≡ true → is_open_to ws r q (suc k) key y ≡ true → ⊥
               shut None e own open_now = cc own
-              shut (Some x) e own open_now = cc ((and_true (x.epoch == epoch_at r q (suc k)) (not (is_late ws r x key)) open_now).0, not_now x own (to_made ws r key.stamp key.origin m key.index x f e))
+              shut (Some x) e own open_now = cc ((and_parts (x.epoch == epoch_at r q (suc k)) (not (is_late ws r x key)) open_now).0, not_now x own (to_made ws r key.stamp key.origin m key.index x f e))
 
       no_notice : is_notice ws r q (suc k) key ≡ false
       no_notice = elim (bool_cases (is_notice ws r q (suc k) key)) [
         | inr e ↦ e
-        | inl e ↦ absurd (none (doomed_at ws r key) refl (and_true (is_above key (last_key r q (suc k))) (is_notice_of ws r q (suc k) (doomed_at ws r key)) e).1)
+        | inl e ↦ absurd (none (doomed_at ws r key) refl (and_parts (is_above key (last_key r q (suc k))) (is_notice_of ws r q (suc k) (doomed_at ws r key)) e).1)
       ]
         where
           lines : (table ws r q (suc k)).lines ≡ []

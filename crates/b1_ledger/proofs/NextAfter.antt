@@ -5,7 +5,7 @@ use Rattle.std.specs.Option.{option_or}
 use Rattle.std.proofs.lemmas.List.{length-append}
 use Rattle.std.proofs.lemmas.List.Folds.{list_any-append, find-append}
 use Rattle.std.proofs.lemmas.Option.{slice_get_within}
-use Rattle.std.proofs.lemmas.Bool.{cases_eq}
+use Rattle.std.proofs.lemmas.Bool.{cases_eq, and_parts}
 use Rattle.std.proofs.Common.{arith, inl, inr, subst, sym, ap, ◌∙◌}
 use Rattle.b1_model.specs.declared.naming.Key.{Key}
 use Rattle.b1_model.specs.declared.naming.Opening.{Opening}
@@ -20,7 +20,7 @@ use Rattle.b1_model.specs.Names.{Node, calls_of, calls_in}
 use Rattle.b1_model.specs.Ledger.{stamp_of, got_key, is_below, Message, to_at, is_entry, message, slots, has_node, destructions_of, node_at, doomed_at, is_late_by, is_late}
 use Rattle.b1_model.specs.Legal.{last_key, is_above, is_open_to, is_message, is_notice_of, is_notice, is_candidate, Legal}
 use Rattle.b1_ledger.specs.Growth.{Appends, sent_call, IsNewStamp, next_destruction, is_quiet, may_receive_message, may_receive_notice, may_receive}
-use Rattle.b1_ledger.proofs.Sequences.{or_false, and_true, or_left, or_right, bool_cases, option_cases}
+use Rattle.b1_ledger.proofs.Sequences.{or_left, or_right, bool_cases, option_cases}
 use Rattle.b1_ledger.proofs.Bound.{seen_of_stamp}
 use Rattle.b1_ledger.proofs.Grows.{new_call, added, destructions_here, late_same}
 use Rattle.b1_ledger.proofs.Kept.{last_kept, open_same, notice_of_same}
@@ -29,6 +29,7 @@ use Rattle.b1_ledger.proofs.Stamped.{late_sent, notice_sent, candidate_sent_othe
 use Rattle.b1_ledger.proofs.Steps.{message_quiet, notice_quiet, candidate_quiet, message_received, notice_received, candidate_notice, notice_of_received}
 use Rattle.b1_model.specs.Keys.{compare_keys}
 use Rattle.std.proofs.Common.{is_lt}
+use Rattle.std.proofs.Math.Bool.{or-false}
 
 -- the order of keys as the queue has it
 pub below_is_less : (x y : Key) → is_below x y ≡ is_lt (compare_keys x y)
@@ -61,7 +62,7 @@ module _ (o : Opening) (r t : Record) (p : ℕ) (c : Call) (a : Appends r t p c)
   -- what is late after the call
   pub late_is : (x : Node) (key : Key) → is_late o.wires t x key ≡ (is_late o.wires r x key || list_any (is_late_by x key) (next_destruction o r t p c))
   late_is x key = elim (bool_cases (list_any (is_late_by x key) (added o r t p c a legal))) [
-    | inr n ↦ late_same o r t p c a legal x key n ∙ sym (ap (λ b. is_late o.wires r x key || b) (sym (ap (list_any (is_late_by x key)) (added_next o r t p c a legal)) ∙ n) ∙ or_false (is_late o.wires r x key))
+    | inr n ↦ late_same o r t p c a legal x key n ∙ sym (ap (λ b. is_late o.wires r x key || b) (sym (ap (list_any (is_late_by x key)) (added_next o r t p c a legal)) ∙ n) ∙ or-false (is_late o.wires r x key))
     | inl y ↦ new y ∙ sym (or_right (is_late o.wires r x key) (list_any (is_late_by x key) (next_destruction o r t p c)) (sym (ap (list_any (is_late_by x key)) (added_next o r t p c a legal)) ∙ y))
   ]
     where
@@ -128,7 +129,7 @@ module _ (o : Opening) (r t : Record) (p : ℕ) (c : Call) (a : Appends r t p c)
   may_notice_received key number offset handles payload e other h =
       let l : length (calls_of r p) ≤ length (calls_of r p) = omega arith in
       let at = new_call o r t p c a legal in
-      let both = and_true (is_below key other) (is_notice_of o.wires t p (suc (length (calls_of r p))) (doomed_at o.wires t other))
+      let both = and_parts (is_below key other) (is_notice_of o.wires t p (suc (length (calls_of r p))) (doomed_at o.wires t other))
       (sym (notice_received o.wires t p (length (calls_of r p)) c at key (ap got_key e) other) ∙ sym (ap (λ n. is_notice o.wires t p n other) len_here) ∙ h) in
       let none : stamp_of c.answer ≡ None = ap stamp_of e in
       let same : doomed_at o.wires t other ≡ doomed_at o.wires r other = doomed_unstamped o r t p c a legal other (λ f. cc (none, f)) in

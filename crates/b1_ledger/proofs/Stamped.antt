@@ -4,7 +4,7 @@ use Rattle.std.specs.List.{list_any}
 use Rattle.std.specs.Option.{option_or}
 use Rattle.std.proofs.lemmas.List.Folds.{find-append}
 use Rattle.std.proofs.lemmas.Option.{slice_get_within, same_Some}
-use Rattle.std.proofs.lemmas.Bool.{cases_eq}
+use Rattle.std.proofs.lemmas.Bool.{cases_eq, and_parts}
 use Rattle.std.proofs.Common.{arith, inl, inr, subst, sym, ap, ◌∙◌}
 use Rattle.b1_model.specs.declared.naming.Key.{Key}
 use Rattle.b1_model.specs.declared.naming.Opening.{Opening}
@@ -16,7 +16,7 @@ use Rattle.b1_model.specs.Names.{Node, calls_of, made, epoch_at}
 use Rattle.b1_model.specs.Ledger.{got_key, is_before, is_below, Message, to_at, is_accepted, is_node_of, is_entry, message, table, node_of, is_destroyed_in, destruction_by, destructions_of, doomed_at, is_late_by, is_late}
 use Rattle.b1_model.specs.Legal.{last_key, is_above, is_open_to, is_message_in, is_message, is_notice_of, is_notice, is_candidate, Legal}
 use Rattle.b1_ledger.specs.Growth.{Appends, sent_call, message_key, destroy_stamp, IsNewStamp, GoesTo, IsAboveReceipts, next_destruction, Names, DestroysAbove}
-use Rattle.b1_ledger.proofs.Sequences.{and_true, or_true, or_left, or_right, bool_cases, option_cases}
+use Rattle.b1_ledger.proofs.Sequences.{or_true, or_left, or_right, bool_cases, option_cases}
 use Rattle.b1_ledger.proofs.KeyOrder.{Before, before_is}
 use Rattle.b1_ledger.proofs.Bound.{seen_of_stamp, message_of_call}
 use Rattle.b1_ledger.proofs.Grows.{new_call, message_of_other, message_unsent, added, destructions_here, late_same, unlate, doomed_same}
@@ -59,16 +59,16 @@ module _ (o : Opening) (r t : Record) (p : ℕ) (s : SendCmd) (b : Sent) (a : Ap
   message_sent_own new q k key l es eo h =
       let m : Message = record { to = map (node_of o.wires t p (length (calls_of r p))) s.to; carried = map (node_of o.wires t p (length (calls_of r p))) s.with; places = b.places; payload = s.payload } in
       let found : message o.wires t key.stamp key.origin ≡ Some m = subst (λ u. message o.wires t u key.origin ≡ Some m) (sym es) (subst (λ u. message o.wires t b.stamp u ≡ Some m) (sym eo) (message_sent new)) in
-      let both = and_true (is_above key (last_key t q k)) (is_message_in o.wires t q k key (message o.wires t key.stamp key.origin)) h in
-      let entry = and_true (is_entry q key.index m) (is_open_to o.wires t q k key (to_at m key.index)) (sym (ap (is_message_in o.wires t q k key) found) ∙ both.1) in
-      let placed = and_true (is_accepted (slice_get m.places key.index)) (is_node_of q (to_at m key.index)) entry.0 in
+      let both = and_parts (is_above key (last_key t q k)) (is_message_in o.wires t q k key (message o.wires t key.stamp key.origin)) h in
+      let entry = and_parts (is_entry q key.index m) (is_open_to o.wires t q k key (to_at m key.index)) (sym (ap (is_message_in o.wires t q k key) found) ∙ both.1) in
+      let placed = and_parts (is_accepted (slice_get m.places key.index)) (is_node_of q (to_at m key.index)) entry.0 in
       let at = open_node (to_at m key.index) entry.1 placed.1 in
       (at.0, (placed.0, at.1), at.2, at.3)
     where
       open_node : (y : Option Node) → is_open_to o.wires t q k key y ≡ true → is_node_of q y ≡ true → (x : Node) × (y ≡ Some x) × (x.owner ≡ q) × (x.epoch ≡ epoch_at r q k)
       open_node None g f = cc
       open_node (Some x) g f =
-          let both = and_true (x.epoch == epoch_at t q k) (not (is_late o.wires t x key)) g in
+          let both = and_parts (x.epoch == epoch_at t q k) (not (is_late o.wires t x key)) g in
           let present : (x.epoch == epoch_at r q k) ≡ true = sym (ap (λ e. x.epoch == e) (epoch_kept o r t p (sent_call s b) a legal q k l)) ∙ both.0 in
           let owner : (x.owner == q) ≡ true = f in
           (x, refl, grind (arith, owner), grind (arith, present))
@@ -173,7 +173,7 @@ module _ (o : Opening) (r t : Record) (p : ℕ) (c : Call) (a : Appends r t p c)
           let l : k ≤ length (calls_of r q) = omega (arith, slice_get_within (calls_of r q) k d at) in
           elim (or_true (is_message o.wires t q k other) (is_notice o.wires t q k other) h) [
             | inl m ↦ inl (or_left (is_message o.wires r q k other) (is_notice o.wires r q k other) (message_doomed_was q k other l m))
-            | inr n ↦ inr (new_notice q k d key other l at g e f (and_true (is_above other (last_key t q k)) (is_notice_of o.wires t q k (doomed_at o.wires t other)) n).1 (option_cases (doomed_at o.wires t other)))
+            | inr n ↦ inr (new_notice q k d key other l at g e f (and_parts (is_above other (last_key t q k)) (is_notice_of o.wires t q k (doomed_at o.wires t other)) n).1 (option_cases (doomed_at o.wires t other)))
           ]
         where
           new_notice : (q k : ℕ) (d : Call) (key other : Key) → k ≤ length (calls_of r q) → slice_get (calls_of r q) k ≡ Some d → got_key d.answer ≡ Some key → other.stamp ≡ stamp → other.origin ≡ p → is_notice_of o.wires t q k (doomed_at o.wires t other) ≡ true → ((doomed_at o.wires t other ≡ None) ⊎ ((x : Node) × (doomed_at o.wires t other ≡ Some x))) → is_below other key ≡ false

@@ -1,6 +1,7 @@
 -- What one call of a record changes for the calls behind it.
 use Rattle.std.specs.Prelude.{◌≡◌, refl, ℕ, suc, pred, ◌⊎◌, Bool, true, false, ◌&&◌, ◌||◌, if◌then◌else◌, ◌==◌, List, [], ◌∷◌, ◌++◌, take, slice_get, Option, Some, None, is_some}
 use Rattle.std.proofs.Common.{inl, inr, sym, ap, ◌∙◌}
+use Rattle.std.proofs.lemmas.Bool.{and_parts}
 use Rattle.b1_model.specs.declared.naming.Key.{Key}
 use Rattle.b1_model.specs.declared.naming.Wire.{Wire}
 use Rattle.b1_model.specs.declared.commands.Command.{Command}
@@ -14,7 +15,7 @@ use Rattle.b1_model.specs.Names.{is_given, Node, add_new, wired, calls_of, next_
 use Rattle.b1_model.specs.Ledger.{got_key, is_below, Line, Table, is_the_node, line_number, received, received_all, start, changed, table_in, Message, to_at, is_entry, message, slots, table, has_node, destruction_by, add_destruction, destructions_before, doomed_at}
 use Rattle.b1_model.specs.Legal.{last_after, last_in, last_key, is_above, is_open_to, is_message_in, is_message, is_notice_of, is_notice, is_candidate}
 use Rattle.b1_ledger.specs.Growth.{is_quiet}
-use Rattle.b1_ledger.proofs.Sequences.{take-more, and_true, and_of, or_left, or_right, bool_cases}
+use Rattle.b1_ledger.proofs.Sequences.{take-more, and_of, or_left, or_right, bool_cases}
 use Rattle.b1_ledger.proofs.Walks.{made_in-append, epoch_in-append, last_in-append, table_in-append}
 use Rattle.b1_ledger.proofs.KeyOrder.{below-below}
 use Rattle.b1_model.specs.Ledger.{has_line, raised, lowered}
@@ -216,7 +217,7 @@ module _ (ws : List Wire) (r : Record) (q k : ℕ) (c : Call) (at : slice_get (c
 
   pub notice_released : (n : ℕ) → c.command ≡ cmd.Release n → c.answer ≡ ans.Done → (key : Key) → is_notice ws r q (suc k) key ≡ true → is_notice ws r q k key ≡ true
   notice_released n e f key h =
-      let both = and_true (is_above key (last_key r q (suc k))) (is_notice_of ws r q (suc k) (doomed_at ws r key)) h in
+      let both = and_parts (is_above key (last_key r q (suc k))) (is_notice_of ws r q (suc k) (doomed_at ws r key)) h in
       and_of (is_above key (last_key r q k)) (is_notice_of ws r q k (doomed_at ws r key))
       (sym (ap (is_above key) (last_next ∙ ap (last_after (last_key r q k)) f)) ∙ both.0)
       (was (doomed_at ws r key) both.1)

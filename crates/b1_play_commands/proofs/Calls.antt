@@ -1,6 +1,7 @@
 -- The calls of a driver stay in their places where its open command ends.
 use Rattle.std.proofs.Common.{◌≡◌, ◌⊎◌, refl, sym, ap, inl, inr, subst, ℕ, zero, suc, ◌<◌, Bool, true, false, cond, List, [], ◌∷◌, ◌++◌, take, slice_get, length, Option, Some, None, is_some, append-nil}
 use Rattle.std.proofs.lemmas.List.{take_at, take-append-le}
+use Rattle.std.proofs.lemmas.Option.{same_Some}
 use native.Mathlib.Omega.{arith}
 use Rattle.b1_model.specs.declared.answers.Answer.{Answer}
 use Rattle.b1_model.specs.declared.answers.Answer.TheVariants as answer
@@ -16,13 +17,10 @@ use Rattle.b1_model.specs.MachineTook.{is_done, answer_of, is_waiting, as_call, 
 use Rattle.b1_play_commands.specs.Following.{AllInPlace, asked, EndsWell, PhaseFits, TurnFits, IsOpen, Follows}
 use Rattle.b1_play_commands.proofs.Phases.{answered}
 
-some_same : {A : Type 0} (x y : A) → Some x ≡ Some y → x ≡ y
-some_same x y same = cc same
-
 -- ---- one call more
 
 last_cases : {X : Type 0} (xs : List X) (x : X) (k : ℕ) (y : X) → slice_get (xs ++ x ∷ []) k ≡ Some y → ((k < length xs) × (slice_get xs k ≡ Some y)) ⊎ ((k ≡ length xs) × (y ≡ x))
-last_cases [] x zero y is = inr (refl, sym (some_same x y is))
+last_cases [] x zero y is = inr (refl, sym (same_Some x y is))
 last_cases [] x (suc k) y is = absurd (cc is)
 last_cases (z ∷ xs) x zero y is = inl (omega arith, is)
 last_cases (z ∷ xs) x (suc k) y is = elim (last_cases xs x k y is) [ inl old ↦ inl (omega (arith, old.0), old.1) | inr new ↦ inr (ap suc new.0, new.1) ]
@@ -97,7 +95,7 @@ module _ (commands : List Command) (d : DriverPart) (command : Command) (all : A
   ended_follows shut got some well = record { calls = ends_placed shut got some well; doing = λ doing is. absurd (cc is) }
 
   open_follows : (phase : Phase) → PhaseFits command phase → (doing : Doing) → ◌≡◌ {A = Option Doing} (Some (record { command = command; phase = phase })) (Some doing) → IsOpen commands d.calls doing
-  open_follows phase fits doing is = subst (IsOpen commands d.calls) (some_same (record { command = command; phase = phase }) doing is) (record { command = same; phase = fits })
+  open_follows phase fits doing is = subst (IsOpen commands d.calls) (same_Some (record { command = command; phase = phase }) doing is) (record { command = same; phase = fits })
 
   goes_follows : (b : Bool) (got : Option Answer) (phase : Phase) → answer_of command phase ≡ got → PhaseFits command phase → Follows commands (goes_by b got d command phase)
   goes_follows false got phase is fits = record { calls = all; doing = open_follows phase fits }

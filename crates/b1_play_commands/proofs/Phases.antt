@@ -3,6 +3,7 @@ use Rattle.std.proofs.Common.{◌≡◌, refl, sym, ap, subst, ℕ, zero, suc, �
 use Rattle.std.specs.List.{list_any, list_all}
 use Rattle.std.proofs.lemmas.Bool.{ltb-false, cond_both}
 use Rattle.std.proofs.lemmas.List.{length-append}
+use Rattle.std.proofs.lemmas.Option.{same_Some}
 use native.Mathlib.Omega.{arith}
 use Rattle.b1_model.specs.declared.answers.Answer.{Answer}
 use Rattle.b1_model.specs.declared.answers.Answer.TheVariants as answer
@@ -26,9 +27,6 @@ use Rattle.b1_inv.specs.Sends.{IsBegun, SendShape}
 use Rattle.b1_inv.specs.Notices.{IsDestroying}
 use Rattle.b1_inv_sends.proofs.Places.{next_accepted_place}
 use Rattle.b1_play_commands.specs.Following.{PlacesFit, EndsWell, PhaseFits, TurnFits}
-
-some_same : {A : Type 0} (x y : A) → Some x ≡ Some y → x ≡ y
-some_same x y same = cc same
 
 -- ---- places
 
@@ -102,7 +100,7 @@ pub answered : (command : Command) (phase : Phase) (got : Answer) → PhaseFits 
 answered command phase got k is = fixed phase k is
   where
     at : (other : Answer) → EndsWell false command other → Some other ≡ Some got → EndsWell false command got
-    at other well same = subst (EndsWell false command) (some_same other got same) well
+    at other well same = subst (EndsWell false command) (same_Some other got same) well
 
     fixed : (phase : Phase) → PhaseFits command phase → answer_of command phase ≡ Some got → EndsWell false command got
     fixed (Unstaging begun places refused place) k is = at _ (refused_well false command (send_plain command k) refused) is

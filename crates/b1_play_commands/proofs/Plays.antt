@@ -2,7 +2,7 @@
 use Rattle.std.proofs.Common.{◌≡◌, refl, sym, ap, ◌∙◌, inl, inr, subst, ℕ, zero, suc, ◌+◌, ◌<◌, Bool, true, false, cond, not, List, [], ◌∷◌, filter, slice_get, length, Option, Some, None, is_none, is_some}
 use Rattle.std.specs.List.{range_with_len}
 use Rattle.std.proofs.lemmas.Bool.{cond_both}
-use Rattle.std.proofs.lemmas.Option.{slice_get_within}
+use Rattle.std.proofs.lemmas.Option.{slice_get_within, same_Some}
 use native.Mathlib.Omega.{arith}
 use Rattle.b1_model.specs.declared.naming.Opening.{Opening}
 use Rattle.b1_model.specs.declared.commands.Command.{Command}
@@ -23,9 +23,6 @@ use Rattle.b1_schedule.specs.Schedule.{beginning, with_step, Ending, Open, Calle
 use Rattle.b1_play_commands.specs.Following.{asked, Follows, AllFollow, AllEnd, EndsAt}
 use Rattle.b1_play_commands.proofs.Steps.{MayBegin, all_follow, all_end}
 
-some_same : {A : Type 0} (x y : A) → Some x ≡ Some y → x ≡ y
-some_same x y same = cc same
-
 -- ---- which command begins
 
 begins_by : (commands : List Command) (d : DriverPart) (doing : Option Doing) (next : Option Command) → next ≡ slice_get commands (length d.calls) → (c : Command)
@@ -33,7 +30,7 @@ begins_by : (commands : List Command) (d : DriverPart) (doing : Option Doing) (n
 begins_by commands d (Some one) next is c begun = absurd (cc begun)
 begins_by commands d None None is c begun = absurd (cc begun)
 begins_by commands d None (Some one) is c begun = record {
-  command = sym (some_same (resolved one d.calls) c begun) ∙ ap (λ n. asked n d.calls) is;
+  command = sym (same_Some (resolved one d.calls) c begun) ∙ ap (λ n. asked n d.calls) is;
   shut = λ shut. ap is_some (sym is);
 }
 
@@ -41,7 +38,7 @@ drains_by : (commands : List Command) (d : DriverPart) (doing : Option Doing) �
     → ◌≡◌ {A = Option Command} (elim doing [ Some one ↦ None | None ↦ Some cmd.Await ]) (Some c) → MayBegin commands d c
 drains_by commands d (Some one) none not_shut c begun = absurd (cc begun)
 drains_by commands d None none not_shut c begun = record {
-  command = sym (some_same cmd.Await c begun) ∙ ap (λ n. asked n d.calls) (sym none);
+  command = sym (same_Some cmd.Await c begun) ∙ ap (λ n. asked n d.calls) (sym none);
   shut = λ shut. absurd (cc (shut, not_shut));
 }
 
@@ -92,7 +89,7 @@ module _ (o : Opening) (lists : List (List Command)) (m : Shortage) (sound : (s 
       stepped_keeps (Follow o lists) p command d s f
       (λ t step. record {
         reached = reached_more o s t p command f.reached step;
-        all = all_follow step lists (sound s f.reached).sends f.all (λ c begun. subst (λ e. MayBegin (commands_of lists p) e c) (some_same d step.driver (sym is ∙ step.is_driver)) (begins c begun));
+        all = all_follow step lists (sound s f.reached).sends f.all (λ c begun. subst (λ e. MayBegin (commands_of lists p) e c) (same_Some d step.driver (sym is ∙ step.is_driver)) (begins c begun));
       })
 
   end_step : (p : ℕ) (command : Option Command) (d : DriverPart) (s : State) → AllEnd lists s → AllEnd lists (with_step o m p command d s)

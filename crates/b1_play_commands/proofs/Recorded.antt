@@ -1,6 +1,7 @@
 -- The record of a state has each driver's calls, and all commands of the script where each list is at its end.
 use Rattle.std.proofs.Common.{◌≡◌, refl, sym, ap, ◌∙◌, subst, ℕ, zero, suc, ◌<◌, ◌≤◌, List, [], ◌∷◌, take, slice_get, length, Option, Some, None}
 use Rattle.std.proofs.lemmas.List.{length-append}
+use Rattle.std.proofs.lemmas.Option.{same_Some}
 use native.Mathlib.Omega.{arith}
 use Rattle.b1_model.specs.declared.naming.Opening.{Opening}
 use Rattle.b1_model.specs.declared.commands.Command.{Command}
@@ -20,9 +21,6 @@ use Rattle.b1_play_commands.specs.Following.{AllInPlace, Follows, AllFollow, All
 use Rattle.b1_play_commands.proofs.Calls.{driver_follows}
 use Rattle.b1_play_commands.proofs.Steps.{still_past}
 use Rattle.b1_play_commands.proofs.Plays.{Plays, plays}
-
-some_same : {A : Type 0} (x y : A) → Some x ≡ Some y → x ≡ y
-some_same x y same = cc same
 
 -- the recorded calls of a peer are those of a driver, or there are none
 recorded_by : (P : List Call → Type 0) (xs : List PeerPart) (ds : List DriverPart) (p : ℕ) → P [] → ((d : DriverPart) → slice_get ds p ≡ Some d → P (driver_calls d)) → P (calls_in (slice_get (peer_records xs ds) p))

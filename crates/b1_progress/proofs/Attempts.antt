@@ -3,6 +3,7 @@ use Rattle.std.proofs.Common.{◌≡◌, ◌⊎◌, refl, sym, ap, ◌∙◌, in
 use Rattle.std.specs.Prelude.{slice_get}
 use Rattle.std.proofs.lemmas.List.{length-append}
 use Rattle.std.proofs.lemmas.List.Sums.{sum_by-cons}
+use Rattle.std.proofs.lemmas.Option.{same_Some}
 use Rattle.b1_model.specs.declared.naming.Opening.{Opening}
 use Rattle.b1_model.specs.declared.naming.PeerSpec.{PeerSpec}
 use Rattle.b1_model.specs.declared.answers.Answer.{Answer}
@@ -37,9 +38,6 @@ use Rattle.b1_schedule.specs.Schedule.{Ending, Open, Called, Waits, removed_by}
 use Rattle.b1_inv_tools.proofs.Leaves.{Did, step_did, turned_open, driver_cases}
 use Rattle.b1_progress.specs.Level.{peer_level, level, some_removed, gain_shown, gain_in, gain_so_far, gain_after, IsAttempt, AttemptsAnswered}
 use Rattle.b1_progress.proofs.PeerLevels.{some_taken, recv_level, drop_level}
-
-some_same : {A : Type 0} (x y : A) → Some x ≡ Some y → x ≡ y
-some_same x y same = cc same
 
 -- ---- what an attempt's end shows
 
@@ -140,7 +138,7 @@ owed_enough one rest =
 
 part_of_sum : {X : Type 0} (f : X → ℕ) (xs : List X) (i : ℕ) (x : X) → slice_get xs i ≡ Some x → f x ≤ sum_by f xs
 part_of_sum f [] i x is = absurd (cc is)
-part_of_sum f (y ∷ rest) zero x is = let same : y ≡ x = some_same y x is in omega (arith, ap f same, sum_by-cons f y rest)
+part_of_sum f (y ∷ rest) zero x is = let same : y ≡ x = same_Some y x is in omega (arith, ap f same, sum_by-cons f y rest)
 part_of_sum f (y ∷ rest) (suc i) x is = omega (arith, part_of_sum f rest i x is, sum_by-cons f y rest)
 
 -- the owner counts a reference that is to be dropped
@@ -148,7 +146,7 @@ drop_counted : (s : State) (p : ℕ) (d : DriverPart) (one : OwedDrop) (rest : L
     → (one.node.serial < length x.nodes) × (1 ≤ count_of (node_at x one.node.serial) one.holder) × (1 ≤ one.amount)
 drop_counted s p d one rest x right is_driver owed is_peer =
     let drop = right.owed p d one is_driver (subst (λ list. Has list one) (sym owed) (inl refl)) in
-    let same : drop.made.0 ≡ x = some_same drop.made.0 x (sym drop.made.1 ∙ is_peer) in
+    let same : drop.made.0 ≡ x = same_Some drop.made.0 x (sym drop.made.1 ∙ is_peer) in
     let counted : count_of (node_at x one.node.serial) one.holder ≡ fresh s one.node one.holder = sym (ap (λ found. elim found [ None ↦ 0 | Some y ↦ count_of (node_at y one.node.serial) one.holder ]) is_peer) ∙ right.counts one.node one.holder in
     let enough : one.amount ≤ owed_amount one.node one.holder d.owed = subst (λ list. one.amount ≤ owed_amount one.node one.holder list) (sym owed) (owed_enough one rest) in
     (subst (λ y. one.node.serial < length y.nodes) same drop.made.2, omega (arith, counted, enough, drop.some, part_of_sum (driver_amount one.node one.holder) s.drivers p d is_driver), drop.some)
@@ -223,7 +221,7 @@ pub goes_on_lower : (o : Opening) (s : State) (p : ℕ) (t : State) → IsSound 
 goes_on_lower o s p t sound step (got, is_open) = omega (arith, levels step, lower, so_far)
   where
     here : step.at ≡ peer_of step.driver.me (next_action step.driver)
-    here = sym (ap (λ pair. pair.1) (some_same (aimed step.driver) (step.action, step.at) (sym (ap (λ doing. option_map aimed (begun_by step.driver doing None)) is_open) ∙ step.is_target)))
+    here = sym (ap (λ pair. pair.1) (same_Some (aimed step.driver) (step.action, step.at) (sym (ap (λ doing. option_map aimed (begun_by step.driver doing None)) is_open) ∙ step.is_target)))
 
     lower : peer_level step.new_peer + gain_after step.driver step.new_driver ≤ peer_level step.peer + gain_shown step.driver got
     lower = subst (λ r. peer_level r.1 + gain_after step.driver r.0 ≤ peer_level step.peer + gain_shown step.driver got) step.local.after
@@ -236,7 +234,7 @@ goes_on_lower o s p t sound step (got, is_open) = omega (arith, levels step, low
 
 idle_open : (specs : List PeerSpec) (me p : ℕ) (d : DriverPart) → slice_get (idle_drivers me specs) p ≡ Some d → d.doing ≡ None
 idle_open [] me p d is = absurd (cc is)
-idle_open (spec ∷ rest) me zero d is = sym (ap (λ e. e.doing) (some_same _ d is))
+idle_open (spec ∷ rest) me zero d is = sym (ap (λ e. e.doing) (same_Some _ d is))
 idle_open (spec ∷ rest) me (suc p) d is = idle_open rest (me + 1) p d is
 
 pub starts_answered : (o : Opening) → AttemptsAnswered (opening_state o)
@@ -263,7 +261,7 @@ stays_answered o s p c t sound step answered r d doing is_driver is_open is = el
     by_from : (phase : Phase) → did.doing.command ≡ cmd.Await → turn did.e.me did.doing.command did.doing.phase outcome ≡ Goes phase → (step.driver.doing ≡ Some did.doing) ⊎ ((step.driver.doing ≡ None) × (c ≡ Some did.doing.command) × (did.doing.phase ≡ Starting)) → (got : Answer) × (phase ≡ Reaping got)
     by_from phase is to (inl open_already) =
         let attempt = answered p step.driver did.doing step.is_driver open_already is in
-        let doing_is : did.doing ≡ record { command = cmd.Await; phase = Reaping attempt.0 } = some_same _ _ (sym open_already ∙ attempt.1) in
+        let doing_is : did.doing ≡ record { command = cmd.Await; phase = Reaping attempt.0 } = same_Some _ _ (sym open_already ∙ attempt.1) in
         (attempt.0, goes_same (Reaping attempt.0) phase (subst (λ one. turn did.e.me one.command one.phase outcome ≡ Goes phase) doing_is to))
       where
         goes_same : (a b : Phase) → Goes a ≡ Goes b → b ≡ a

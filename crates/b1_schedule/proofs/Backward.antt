@@ -1,5 +1,6 @@
 -- What a driver's part shows after an event, it showed before: no event takes back where memory was wanting.
 use Rattle.std.proofs.Common.{max, ◌≡◌, refl, sym, ap, ◌∙◌, arith, ℕ, ◌+◌, ◌<◌, Bool, true, false, cond, ◌==◌, ◌&&◌, ◌||◌, nat_le, nat_lt, List, [], ◌∷◌, ◌++◌, slice_get, get_or, length, Option, Some, None, Ok, Err, Result}
+use Rattle.std.proofs.Math.Bool.{and-false}
 use Rattle.b1_model.specs.declared.answers.Answer.TheVariants as answer
 use Rattle.b1_model.specs.declared.answers.Reason.{Reason}
 use Rattle.b1_model.specs.declared.answers.Reason.TheVariants as reason
@@ -19,13 +20,9 @@ abbrev pub TurnAgrees : Shortage → ℕ → ℕ → Command → Turn → Type 0
 TurnAgrees m me k command (Goes phase) = PhaseAgrees m me k command phase
 TurnAgrees m me k command (Ends got) = AnswerAgrees m me k command got
 
-and_false : (b : Bool) → (b && false) ≡ false
-and_false true = refl
-and_false false = refl
-
 -- no refusal with a place is of the begin
 at_begin : (b g : Bool) → (b && (g && false)) ≡ false
-at_begin true g = and_false g
+at_begin true g = and-false g
 at_begin false g = refl
 
 module _ (m : Shortage) (me k : ℕ) (command : Command) (plain : is_await command ≡ false) where
@@ -61,7 +58,7 @@ module _ (m : Shortage) (me k : ℕ) (command : Command) (plain : is_await comma
 
       by_place : (first : Option ℕ) → first ≡ memory_place 0 places → ((place : Option ℕ) → m me k place ≡ is_short_answer command (elim first [ Some place ↦ refused_at reason.Memory (Some place) | None ↦ elim (get_or places 0 None) [ None ↦ refused_at reason.Invalid None | Some r ↦ refused_at r (Some 0) ] ]) place) → PlacesAgree m me k command places
       by_place (Some a) same agrees = record {
-        begin = agrees None ∙ and_false (send_of command).go_on;
+        begin = agrees None ∙ and-false (send_of command).go_on;
         accepted = λ i is. absurd (cc (none, some_accepted places i is));
         refused = λ go i place is short. agrees (Some i) ∙ later (a == i) (send_of command).go_on (nat_le (a + 1) i) go (grind (arith, first_short 0 places a (sym same) i place is short));
       }

@@ -2,6 +2,7 @@
 use Rattle.std.specs.Prelude.{◌≡◌, refl, ℕ, zero, suc, Bool, true, false, ◌&&◌, ◌||◌, if◌then◌else◌, ◌==◌, List, [], ◌∷◌, length, take, slice_get, Option, Some, None, is_some, find}
 use Rattle.std.specs.List.{list_any}
 use Rattle.std.proofs.Common.{ap, ◌∙◌}
+use Rattle.std.proofs.Math.Bool.{or-false, and-false}
 use Rattle.b1_model.specs.declared.naming.Key.{Key}
 use Rattle.b1_model.specs.declared.naming.Wire.{Wire}
 use Rattle.b1_model.specs.declared.commands.Command.{Command}
@@ -15,7 +16,7 @@ use Rattle.b1_model.specs.Names.{Node, Name, add_new, wired, calls_of, is_flush,
 use Rattle.b1_model.specs.Ledger.{peers_of, Table, received_all, named, start, changed, table_in, slots, table, node_of, Destruction, destruction_by, add_destruction, destructions_before, destructions_of, node_at, doomed_at, is_late_by, is_late}
 use Rattle.b1_model.specs.Legal.{last_key, is_above, is_notice_of, is_notice, is_message, is_candidate}
 use Rattle.b1_serial.specs.Calls.{IsSerial, IsSerialCall}
-use Rattle.b1_serial.proofs.Lists.{Each, each-at, each-take, flat_map-none, or_false, and_false}
+use Rattle.b1_serial.proofs.Lists.{Each, each-at, each-take, flat_map-none}
 
 -- ---- one call
 
@@ -106,8 +107,8 @@ module _ (ws : List Wire) (r : Record) (plain : (q : ℕ) → Each IsSerialCall 
   late_none x key = ap (λ ds. list_any (is_late_by x key) ds) (flat_map-none (λ p. destructions_of ws r p) (peers_of r) (λ p. before_none p (length (calls_of r p))))
 
   pub notice_none : (p k : ℕ) (key : Key) → is_notice ws r p k key ≡ false
-  notice_none p k key = ap (λ y. is_above key (last_key r p k) && is_notice_of ws r p k y) (doomed_none key) ∙ and_false (is_above key (last_key r p k))
+  notice_none p k key = ap (λ y. is_above key (last_key r p k) && is_notice_of ws r p k y) (doomed_none key) ∙ and-false (is_above key (last_key r p k))
 
   -- what may be received is messages
   pub candidate_same : (p k : ℕ) (key : Key) → is_candidate ws r p k key ≡ is_message ws r p k key
-  candidate_same p k key = ap (λ b. is_message ws r p k key || b) (notice_none p k key) ∙ or_false (is_message ws r p k key)
+  candidate_same p k key = ap (λ b. is_message ws r p k key || b) (notice_none p k key) ∙ or-false (is_message ws r p k key)

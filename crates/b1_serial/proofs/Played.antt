@@ -11,6 +11,7 @@ use Rattle.b1_model.specs.Names.{calls_of}
 use Rattle.b1_model.specs.Script.{fits, HasPlaces}
 use Rattle.b1_ledger.specs.Growth.{calls_len}
 use Rattle.b1_pool.specs.Slices.{one_free}
+use Rattle.b1_schedule.specs.Shortage.{Shortage}
 use Rattle.b1_serial.specs.Serial.{Part, opened, after_command, after_commands, after_lists, record_of, IsPlayedWire, IsPlayed}
 use Rattle.b1_serial.specs.Calls.{IsSerialCall}
 use Rattle.b1_serial.proofs.Lists.{Each}
@@ -39,7 +40,7 @@ answered_more (x ∷ cs) (y ∷ ds) c d h k = (h.0, answered_more cs ds c d h.1 
 
 -- ---- the commands of one peer, and of all
 
-module _ (laws : Laws) (o : Opening) (m : ℕ → ℕ → List (Option ℕ)) (wires : Each (IsPlayedWire (length o.peers)) o.wires) where
+module _ (laws : Laws) (o : Opening) (m : Shortage) (wires : Each (IsPlayedWire (length o.peers)) o.wires) where
   -- p has a call more for each of these commands, and no other peer has one
   pub record IsPlayedBy (p : ℕ) (cs : List Command) (parts after : List Part) : Type 0 where
     pub good : Good o after

@@ -2,6 +2,7 @@
 use Rattle.std.specs.Prelude.{◌≡◌, refl, ℕ, suc, ◌%◌, ◌<◌, ◌≤◌, ◌≢◌, ◌⊎◌, true, false, ◌&&◌, List, [], ◌∷◌, ◌++◌, slice_get, Some}
 use Rattle.std.proofs.lemmas.Option.{same_Some}
 use Rattle.std.proofs.Common.{arith, inl, inr, subst, sym, ap, ◌∙◌}
+use Rattle.std.proofs.lemmas.Bool.{and_parts}
 use Rattle.b1_model.specs.declared.naming.Key.{Key}
 use Rattle.b1_model.specs.declared.naming.Opening.{Opening}
 use Rattle.b1_model.specs.declared.commands.Command.TheVariants as cmd
@@ -15,7 +16,7 @@ use Rattle.b1_ledger.specs.Growth.{Appends, calls_len, may_receive}
 use Rattle.b1_serial.specs.declared.Boxed.{Boxed}
 use Rattle.b1_serial.specs.Serial.{Part, at_peer, record_of}
 use Rattle.b1_serial.specs.Calls.{IsSerialCall}
-use Rattle.b1_serial.proofs.Lists.{Each, each-more, and_true, and_of, below_less, below_not_less, below_not_same}
+use Rattle.b1_serial.proofs.Lists.{Each, each-more, and_of, below_less, below_not_less, below_not_same}
 use Rattle.b1_serial.proofs.Plainly.{made_same, candidate_same}
 use Rattle.b1_serial.proofs.Laws.{Laws, call_here, len_here, extends, next_there}
 use Rattle.b1_serial.proofs.Parts.{at_length, at_cases}
@@ -85,7 +86,7 @@ module _ (laws : Laws) (o : Opening) (parts : List Part) (p : ℕ) (f : Part →
       let k = calls_len (record_of parts) p in
       let was : is_candidate o.wires (record_of (at_peer p f parts)) p k b.key ≡ true = laws.unstamped o (record_of parts) (record_of (at_peer p f parts)) p (taking b) p k b.key good.legal appends_taking refl (omega arith) ∙ mail.0.may in
       let is : is_message o.wires (record_of (at_peer p f parts)) p k b.key ≡ true = sym (candidate_same o.wires (record_of (at_peer p f parts)) plain p k b.key) ∙ was in
-      let above = (and_true (is_above b.key (last_key (record_of (at_peer p f parts)) p k)) (is_message_in o.wires (record_of (at_peer p f parts)) p k b.key (message o.wires (record_of (at_peer p f parts)) b.key.stamp b.key.origin)) is).0 in
+      let above = (and_parts (is_above b.key (last_key (record_of (at_peer p f parts)) p k)) (is_message_in o.wires (record_of (at_peer p f parts)) p k b.key (message o.wires (record_of (at_peer p f parts)) b.key.stamp b.key.origin)) is).0 in
       ap (λ n. is_candidate o.wires (record_of (at_peer p f parts)) p n key) (len_here laws o (record_of parts) (record_of (at_peer p f parts)) p (taking b) good.legal appends_taking)
       ∙ candidate_same o.wires (record_of (at_peer p f parts)) plain p (suc k) key
       ∙ laws.behind o.wires (record_of (at_peer p f parts)) p k (taking b) b.key key (call_here laws o (record_of parts) (record_of (at_peer p f parts)) p (taking b) good.legal appends_taking) refl above
@@ -100,7 +101,7 @@ module _ (laws : Laws) (o : Opening) (parts : List Part) (p : ℕ) (f : Part →
     seen = subst (λ cs. Each (IsSeen (f x).clock) cs) (sym more) (subst (λ n. Each (IsSeen n) (x.calls ++ taking b ∷ [])) (sym clock) (each-more (IsSeen x.clock) x.calls (taking b) fine.seen (λ s e. subst (λ n. n ≤ x.clock) (same_Some b.key.stamp s e) (rises_within b.key.stamp x.clock bs rises.1))));
     mail = subst (Each (IsMail o (record_of (at_peer p f parts)) p)) (sym rest) (each_above (IsMail o (record_of parts) p) (IsMail o (record_of (at_peer p f parts)) p) b.key.stamp x.clock bs rises.1 (λ y l m. kept p y (here y.key ∙ and_of (is_below b.key y.key) (may_receive o (record_of parts) p y.key) (below_less b.key y.key l) m.may) m) mail.1);
     rises = subst (λ ys. Rises 0 ys (f x).clock) (sym rest) (subst (Rises 0 bs) (sym clock) (rises_from 0 b.key.stamp x.clock bs (omega arith) rises.1));
-    only = λ key m. subst (Stands key) (sym rest) (go key (and_true (is_below b.key key) (may_receive o (record_of parts) p key) (sym (here key) ∙ m)));
+    only = λ key m. subst (Stands key) (sym rest) (go key (and_parts (is_below b.key key) (may_receive o (record_of parts) p key) (sym (here key) ∙ m)));
   }
     where
       go : (key : Key) → (is_below b.key key ≡ true) × (may_receive o (record_of parts) p key ≡ true) → Stands key bs

@@ -15,7 +15,9 @@ use Rattle.b1_model.specs.Script.{fits, HasPlaces}
 use Rattle.b1_ledger.specs.Growth.{Appends}
 use Rattle.b1_pool.specs.Slices.{begins, is_published, given_back}
 use Rattle.b1_serial.specs.declared.Boxed.{Boxed}
-use Rattle.b1_serial.specs.Serial.{Part, at_peer, called, refused, begin_refusal, clock_limit, place_refusal, slice_length, stamp_of_send, clock_of, node_named, own_number, sent, sent_or_refused, sent_to, sent_by, after_send, received_from, after_recv, after_slice_release, calls_count, after_command, record_of, IsPlayedWire, IsPlayedSend, IsPlayed}
+use Rattle.b1_model.specs.MachineParts.{clock_limit}
+use Rattle.b1_schedule.specs.Shortage.{Shortage}
+use Rattle.b1_serial.specs.Serial.{Part, at_peer, called, refused, begin_refusal, place_refusal, slice_length, stamp_of_send, clock_of, node_named, own_number, sent, sent_or_refused, sent_to, sent_by, after_send, received_from, after_recv, after_slice_release, calls_count, after_command, record_of, IsPlayedWire, IsPlayedSend, IsPlayed}
 use Rattle.b1_serial.proofs.Lists.{Each, slice_get-some}
 use Rattle.b1_serial.proofs.Nodes.{IsWired, start-wired}
 use Rattle.b1_serial.proofs.Laws.{Laws}
@@ -39,7 +41,7 @@ IsSendStep o p s parts after =
     ((b : Refused) × (after ≡ at_peer p (called (cmd.Send s) (ans.Refused b)) parts)) ⊎
     ((node : Node) × (x : Part) × (y : Part) × (node_named o p (slice_index s.to 0) ≡ Some node) × (slice_get parts p ≡ Some x) × (slice_get parts node.owner ≡ Some y) × (after ≡ sent (stamp_of_send x y) p node.owner (own_number o node) s parts))
 
-module _ (o : Opening) (short : List (Option ℕ)) (p : ℕ) (s : SendCmd) (parts : List Part) (x : Part) (at : slice_get parts p ≡ Some x) (known : (node : Node) → node_named o p (slice_index s.to 0) ≡ Some node → node.owner < length parts) where
+module _ (o : Opening) (short : Option ℕ → Bool) (p : ℕ) (s : SendCmd) (parts : List Part) (x : Part) (at : slice_get parts p ≡ Some x) (known : (node : Node) → node_named o p (slice_index s.to 0) ≡ Some node → node.owner < length parts) where
   to_owner : (node : Node) (y : Part) → node_named o p (slice_index s.to 0) ≡ Some node → slice_get parts node.owner ≡ Some y → (b : Option Refused) → IsSendStep o p s parts (sent_or_refused b (stamp_of_send x y) p node.owner (own_number o node) s parts)
   to_owner node y e f (Some b) = inl (b, refl)
   to_owner node y e f None = inr (node, x, y, e, at, f, refl)
@@ -65,7 +67,7 @@ module _ (o : Opening) (short : List (Option ℕ)) (p : ℕ) (s : SendCmd) (part
 
 -- ---- any command
 
-module _ (laws : Laws) (o : Opening) (m : ℕ → ℕ → List (Option ℕ)) (p : ℕ) (parts : List Part) (good : Good o parts) (wires : Each (IsPlayedWire (length o.peers)) o.wires) (within : p < length o.peers) where
+module _ (laws : Laws) (o : Opening) (m : Shortage) (p : ℕ) (parts : List Part) (good : Good o parts) (wires : Each (IsPlayedWire (length o.peers)) o.wires) (within : p < length o.peers) where
   pub refuses : (c : Command) (b : Refused) (f : Part → Part) (x : Part) → slice_get parts p ≡ Some x → (f x).calls ≡ x.calls ++ record { command = c; answer = ans.Refused b } ∷ [] → (f x).clock ≡ x.clock → (f x).waiting ≡ x.waiting → IsPlayed c → IsStep o p c parts (at_peer p f parts)
   refuses (cmd.Send s) b f x at more clock waiting is = record {
     good = good_quiet laws o parts p f x (record { command = cmd.Send s; answer = ans.Refused b }) good at more clock waiting is.with refl refl refl refl;
@@ -90,7 +92,7 @@ module _ (laws : Laws) (o : Opening) (m : ℕ → ℕ → List (Option ℕ)) (p 
   }
   refuses c b f x at more clock waiting is = absurd is
 
-  step_send : (s : SendCmd) (short : List (Option ℕ)) (x : Part) → IsPlayedSend s → slice_get parts p ≡ Some x → IsStep o p (cmd.Send s) parts (after_send o short p s parts)
+  step_send : (s : SendCmd) (short : Option ℕ → Bool) (x : Part) → IsPlayedSend s → slice_get parts p ≡ Some x → IsStep o p (cmd.Send s) parts (after_send o short p s parts)
   step_send s short x played at = go (send_step o short p s parts x at (λ node e. subst (λ n. node.owner < n) (sym good.count) (is_wired node e).owner))
     where
       is_wired : (node : Node) → node_named o p (slice_index s.to 0) ≡ Some node → IsWired o.wires (length o.peers) node

@@ -1,5 +1,5 @@
 -- The record of the serial bus is legal, whole, and the script's.
-use Rattle.std.specs.Prelude.{◌≡◌, ℕ, ◌+◌, ◌<◌, List, [], length, take, map, slice_get, slice_index_or, Option, Some, All}
+use Rattle.std.specs.Prelude.{◌≡◌, ◌+◌, ◌<◌, List, [], length, take, map, slice_get, slice_index_or, Some, All}
 use Rattle.std.proofs.lemmas.Option.{slice_get-get_or}
 use Rattle.std.proofs.Common.{arith, subst, sym, ap}
 use Rattle.b1_model.specs.declared.naming.Opening.{Opening}
@@ -7,6 +7,7 @@ use Rattle.b1_model.specs.declared.commands.Command.{Command}
 use Rattle.b1_model.specs.Names.{calls_in, calls_of}
 use Rattle.b1_model.specs.Legal.{is_candidate, Whole}
 use Rattle.b1_model.specs.Script.{commands_of, IsInPlace, Script}
+use Rattle.b1_schedule.specs.Shortage.{Shortage}
 use Rattle.b1_serial.specs.Serial.{opened, after_lists, drained, record_of, serial, IsPlayed, IsPlayedWire, IsPlayable}
 use Rattle.b1_serial.specs.Calls.{IsSerialCall, IsAllSerial}
 use Rattle.b1_serial.proofs.Lists.{Each, each-all, all-each, each-at, each-weaker, slice_get-some, not_true_false}
@@ -17,7 +18,7 @@ use Rattle.b1_serial.proofs.Played.{ArePlayed, lists_played, opened_none, opened
 use Rattle.b1_serial.proofs.Drained.{all_drained, calls_drained, drained_part}
 use Rattle.b1_serial.proofs.Scripted.{in_place}
 
-module _ (laws : Laws) (o : Opening) (lists : List (List Command)) (m : ℕ → ℕ → List (Option ℕ)) (playable : IsPlayable o lists) where
+module _ (laws : Laws) (o : Opening) (lists : List (List Command)) (m : Shortage) (playable : IsPlayable o lists) where
   wires : Each (IsPlayedWire (length o.peers)) o.wires
   wires = each-all (IsPlayedWire (length o.peers)) o.wires playable.wires
 

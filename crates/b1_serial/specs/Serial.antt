@@ -1,7 +1,7 @@
 -- The plain serial bus: whole commands, one after another, each peer's in turn, and then a drain. Nothing is staged
 -- here, and no command has steps.
-use Rattle.std.specs.Prelude.{◌≡◌, ◌≢◌, ◌<◌, ◌≤◌, All, ℕ, zero, suc, ◌+◌, ◌*◌, ◌/◌, ◌%◌, Bool, true, false, ◌==◌, nat_le, max, if◌then◌else◌, not, Option, None, Some, List, [], ◌∷◌, ◌++◌, length, map, slice_index, slice_get}
-use Rattle.std.specs.List.{list_any}
+use Rattle.std.specs.Prelude.{◌≡◌, ◌≢◌, ◌<◌, ◌≤◌, All, ℕ, zero, suc, ◌+◌, ◌*◌, ◌/◌, ◌%◌, Bool, false, nat_le, max, if◌then◌else◌, not, Option, None, Some, List, [], ◌∷◌, ◌++◌, length, map, slice_index, slice_get}
+use Rattle.b1_model.specs.declared.limits.TheConstants.{MOST_PAYLOAD}
 use Rattle.b1_model.specs.declared.answers.Answer.{Answer}
 use Rattle.b1_model.specs.declared.answers.Answer.TheVariants as ans
 use Rattle.b1_model.specs.declared.answers.Front.TheVariants.{Absent}
@@ -18,43 +18,11 @@ use Rattle.b1_model.specs.declared.records.Call.{Call}
 use Rattle.b1_model.specs.declared.records.Record.{Record}
 use Rattle.b1_model.specs.Names.{Node, calls_of, wired}
 use Rattle.b1_model.specs.Ledger.{named, start}
+use Rattle.b1_model.specs.MachineParts.{clock_limit}
+use Rattle.b1_schedule.specs.Shortage.{Shortage}
 use Rattle.b1_serial.specs.declared.Boxed.{Boxed}
 use Rattle.b1_pool.specs.declared.slices.Slice.{Slice}
 use Rattle.b1_pool.specs.Slices.{one_free, has_fit, largest_free, least_fit, with_alloc, published, given_back, begins, is_published}
-
--- ---- where memory was wanting
-
-abbrev pub is_memory : Reason → Bool
-is_memory reason.Memory = true
-is_memory r = false
-
--- the places that were refused for memory, the first of which has the number i
-abbrev pub short_places : ℕ → List (Option Reason) → List (Option ℕ)
-short_places i [] = []
-short_places i (None ∷ places) = short_places (suc i) places
-short_places i (Some r ∷ places) = if is_memory r then Some i ∷ short_places (suc i) places else short_places (suc i) places
-
--- the places at which an answer says that memory was wanting; the begin of a send counts as the place None
-abbrev pub short_in : Answer → List (Option ℕ)
-short_in (ans.Sent sent) = short_places 0 sent.places
-short_in (ans.Refused refused) = if is_memory refused.reason then refused.place ∷ [] else []
-short_in answer = []
-
-abbrev pub short_of : Option Call → List (Option ℕ)
-short_of None = []
-short_of (Some c) = short_in c.answer
-
--- the places of call k of p that a record refuses for memory
-abbrev pub memory : Record → ℕ → ℕ → List (Option ℕ)
-memory r p k = short_of (slice_get (calls_of r p) k)
-
-abbrev pub is_begin : Option ℕ → Bool
-is_begin None = true
-is_begin (Some i) = false
-
-abbrev pub is_first : Option ℕ → Bool
-is_first None = false
-is_first (Some i) = i == 0
 
 -- ---- the peers
 
@@ -97,26 +65,22 @@ slice_offset payload slices = offset_of (least_fit (slice_length payload) slices
     offset_of None = 0
     offset_of (Some s) = s.offset
 
--- the clock from which on no stamp is begun
-abbrev pub clock_limit : ℕ
-clock_limit = 4611686018427387904
-
 abbrev pub refused : Reason → Option ℕ → Option Refused
 refused reason place = Some (record { reason = reason; place = place })
 
 -- why the begin of a send is refused: by the sender's clock, by its tables, or for memory
-abbrev pub begin_refusal : ℕ → ℕ → Option Node → List (Option ℕ) → Option Refused
+abbrev pub begin_refusal : ℕ → ℕ → Option Node → (Option ℕ → Bool) → Option Refused
 begin_refusal clock number None short = if nat_le clock_limit clock then refused (reason.Overflow clock) None else refused (reason.Unknown number) None
 begin_refusal clock number (Some x) short =
     if nat_le clock_limit clock then refused (reason.Overflow clock) None else
-    if list_any is_begin short then refused reason.Memory None else None
+    if short None then refused reason.Memory None else None
 
 -- why the destination refuses: by its clock, by its pool, or for memory
-abbrev pub place_refusal : ℕ → Part → List (Option ℕ) → Option Refused
+abbrev pub place_refusal : ℕ → Part → (Option ℕ → Bool) → Option Refused
 place_refusal len y short =
     if nat_le clock_limit y.clock then refused (reason.Overflow y.clock) (Some 0) else
     if not (has_fit len y.slices) then refused (reason.Full len (largest_free y.slices)) (Some 0) else
-    if list_any is_first short then refused reason.Memory (Some 0) else None
+    if short (Some 0) then refused reason.Memory (Some 0) else None
 
 -- the stamp of a send: two above the greater of both clocks
 abbrev pub stamp_of_send : Part → Part → ℕ
@@ -153,12 +117,12 @@ own_number o x = number_or_zero (slice_get (wired o.wires x.owner) x.serial)
     number_or_zero None = 0
     number_or_zero (Some m) = m.number
 
-abbrev pub sent_to : Opening → List (Option ℕ) → ℕ → SendCmd → Node → Option Part → Option Part → List Part → List Part
+abbrev pub sent_to : Opening → (Option ℕ → Bool) → ℕ → SendCmd → Node → Option Part → Option Part → List Part → List Part
 sent_to o short p s node (Some x) (Some y) parts =
     sent_or_refused (place_refusal (slice_length s.payload) y short) (stamp_of_send x y) p node.owner (own_number o node) s parts
 sent_to o short p s node x y parts = parts
 
-abbrev pub sent_by : Opening → List (Option ℕ) → ℕ → SendCmd → Option Refused → Option Node → Option Part → List Part → List Part
+abbrev pub sent_by : Opening → (Option ℕ → Bool) → ℕ → SendCmd → Option Refused → Option Node → Option Part → List Part → List Part
 sent_by o short p s (Some r) _ x parts = at_peer p (called (cmd.Send s) (ans.Refused r)) parts
 sent_by o short p s None None x parts = parts
 sent_by o short p s None (Some node) x parts = sent_to o short p s node x (slice_get parts node.owner) parts
@@ -167,7 +131,7 @@ abbrev pub clock_of : Option Part → ℕ
 clock_of None = 0
 clock_of (Some x) = x.clock
 
-abbrev pub after_send : Opening → List (Option ℕ) → ℕ → SendCmd → List Part → List Part
+abbrev pub after_send : Opening → (Option ℕ → Bool) → ℕ → SendCmd → List Part → List Part
 after_send o short p s parts =
     let number = slice_index s.to 0 in
     let node = node_named o p number in
@@ -198,19 +162,19 @@ calls_count None = 0
 calls_count (Some x) = length x.calls
 
 -- the peers after a whole command of p, where memory is wanting at the places m of p's next call
-abbrev pub after_command : Opening → (ℕ → ℕ → List (Option ℕ)) → ℕ → Command → List Part → List Part
+abbrev pub after_command : Opening → Shortage → ℕ → Command → List Part → List Part
 after_command o m p (cmd.Send s) parts = after_send o (m p (calls_count (slice_get parts p))) p s parts
 after_command o m p cmd.Recv parts = at_peer p after_recv parts
 after_command o m p (cmd.SliceRelease offset) parts = at_peer p (after_slice_release offset) parts
 after_command o m p command parts = parts
 
 -- the peers after these commands of p
-abbrev pub after_commands : Opening → (ℕ → ℕ → List (Option ℕ)) → ℕ → List Command → List Part → List Part
+abbrev pub after_commands : Opening → Shortage → ℕ → List Command → List Part → List Part
 after_commands o m p [] parts = parts
 after_commands o m p (c ∷ cs) parts = after_commands o m p cs (after_command o m p c parts)
 
 -- the peers after the commands of peer p and of those behind it
-abbrev pub after_lists : Opening → (ℕ → ℕ → List (Option ℕ)) → ℕ → List (List Command) → List Part → List Part
+abbrev pub after_lists : Opening → Shortage → ℕ → List (List Command) → List Part → List Part
 after_lists o m p [] parts = parts
 after_lists o m p (cs ∷ lists) parts = after_lists o m (suc p) lists (after_commands o m p cs parts)
 
@@ -227,7 +191,7 @@ abbrev pub record_of : List Part → Record
 record_of parts = record { peers = map (λ x. record { epoch = 0; clock = x.clock; calls = x.calls }) parts }
 
 -- the record of the serial bus, with memory wanting at the places m
-abbrev pub serial : Opening → List (List Command) → (ℕ → ℕ → List (Option ℕ)) → Record
+abbrev pub serial : Opening → List (List Command) → Shortage → Record
 serial o lists m = record_of (map drained (after_lists o m 0 lists (opened o)))
 
 -- ---- what is played
@@ -245,7 +209,7 @@ pub record IsPlayedSend (s : SendCmd) : Type 0 where
   pub to : length s.to ≡ 1
   pub plain : slice_index s.to 0 % 2 ≡ 0
   pub with : s.with ≡ []
-  pub size : length s.payload ≤ 65536
+  pub size : length s.payload ≤ MOST_PAYLOAD
 
 -- a command that the serial bus plays
 abbrev pub IsPlayed : Command → Type 0

@@ -10,7 +10,7 @@ use Rattle.b1_model.specs.MachineParts.{State}
 use Rattle.b1_model.specs.Script.{commands_of}
 use Rattle.b1_schedule.specs.Shortage.{shortage_of}
 use Rattle.b1_schedule.specs.Schedule.{Playing, Round}
-use Rattle.b1_serial.specs.Serial.{Part, after_recv, after_slice_release, after_send, after_command, calls_count, memory, IsPlayedSend, IsPlayed}
+use Rattle.b1_serial.specs.Serial.{Part, after_recv, after_slice_release, after_send, after_command, calls_count, IsPlayedSend, IsPlayed}
 use Rattle.b1_serial.proofs.Lists.{single}
 use Rattle.b1_serial.proofs.Scripted.{handle_same, offset_same}
 use Rattle.b1_small.proofs.Resting.{Home, plain, plain_send}
@@ -32,15 +32,15 @@ module _ (o : Opening) (lists : List (List Command)) (r : Record) (homes : ℕ �
   abbrev here : Playing
   here = record { state = s; stage = Round p gained }
 
-  send_by : (c : SendCmd) → IsPlayedSend c → slice_get (commands_of lists p) (length part.calls) ≡ Some (cmd.Send c) → Fine o lists (shortage_of r) here ⊎ Spares homes parts (cmd.Send c) → Goes o lists r homes p parts here (after_send o (memory r p (length part.calls)) p c parts)
+  send_by : (c : SendCmd) → IsPlayedSend c → slice_get (commands_of lists p) (length part.calls) ≡ Some (cmd.Send c) → Fine o lists (shortage_of r) here ⊎ Spares homes parts (cmd.Send c) → Goes o lists r homes p parts here (after_send o (shortage_of r p (length part.calls)) p c parts)
   send_by c played next fine =
       let number = slice_index c.to 0 in
-      subst (λ z. Goes o lists r homes p parts here (after_send o (memory r p (length part.calls)) p z parts)) (sym (send_is c played))
+      subst (λ z. Goes o lists r homes p parts here (after_send o (shortage_of r p (length part.calls)) p z parts)) (sym (send_is c played))
       (send_goes o lists r homes wiring s parts rest count p part is gained number c.payload (next ∙ ap (λ z. Some (cmd.Send z)) (send_is c played)) (ap (λ n. plain n c.payload) (handle_same part.calls number played.plain)) played.plain played.size within (elim fine [ inl ever ↦ inl ever | inr spares ↦ inr (subst (λ z. Spares homes parts (cmd.Send z)) (send_is c played) spares) ]))
 
-  pub command_goes : (c : Command) → IsPlayed c → slice_get (commands_of lists p) (length part.calls) ≡ Some c → Fine o lists (shortage_of r) here ⊎ Spares homes parts c → Goes o lists r homes p parts here (after_command o (memory r) p c parts)
+  pub command_goes : (c : Command) → IsPlayed c → slice_get (commands_of lists p) (length part.calls) ≡ Some c → Fine o lists (shortage_of r) here ⊎ Spares homes parts c → Goes o lists r homes p parts here (after_command o (shortage_of r) p c parts)
   command_goes (cmd.Send c) played next fine =
-      subst (λ w. Goes o lists r homes p parts here (after_send o (memory r p (calls_count w)) p c parts)) (sym is) (send_by c played next fine)
+      subst (λ w. Goes o lists r homes p parts here (after_send o (shortage_of r p (calls_count w)) p c parts)) (sym is) (send_by c played next fine)
   command_goes cmd.Recv played next fine =
       let h = resting_here o lists r homes s parts rest p part is gained in
       own_goes o lists r homes s parts rest p part is gained cmd.Recv act.Recv after_recv next refl refl

@@ -1,5 +1,5 @@
 -- Why no quota refuses a send: the end shows that none did, or the script is light.
-use Rattle.std.proofs.Common.{◌≡◌, ◌⊎◌, inl, inr, arith, ℕ, ◌+◌, ◌*◌, ◌<◌, ◌≤◌, ◌==◌, true, not, List, [], ◌∷◌, length, slice_get, Option, Some, subst}
+use Rattle.std.proofs.Common.{◌≡◌, ◌⊎◌, inl, inr, arith, ℕ, ◌+◌, ◌*◌, ◌<◌, ◌≤◌, ◌==◌, true, not, List, [], ◌∷◌, length, slice_get, Some, subst}
 use Rattle.std.proofs.lemmas.Option.{slice_get_within}
 use Rattle.b1_model.specs.declared.naming.Key.{Key}
 use Rattle.b1_model.specs.declared.naming.Opening.{Opening}
@@ -65,7 +65,7 @@ module _ (count : ℕ) (homes : ℕ → Home) (parts : List Part) where
       fits x y w d a l t same low enough = omega (arith, same, low, enough)
 
   -- it is spent
-  pub spent : (o : Opening) (m : ℕ → ℕ → List (Option ℕ)) (p : ℕ) (c : Command) (left : Quantity → ℕ) → Budget count homes parts (λ what. weight_of what c + left what) → Budget count homes (after_command o m p c parts) left
+  pub spent : (o : Opening) (m : Shortage) (p : ℕ) (c : Command) (left : Quantity → ℕ) → Budget count homes parts (λ what. weight_of what c + left what) → Budget count homes (after_command o m p c parts) left
   spent o m p c left b = record {
     total = b.total;
     done = λ what. b.done what + weight_of what c;
@@ -92,7 +92,7 @@ module _ (o : Opening) (lists : List (List Command)) (m : Shortage) (homes : ℕ
     pub guards_command : length parts ≡ length o.peers → Fine o lists m here ⊎ Spares homes parts c
     guards_command many = elim guard [ inl fine ↦ inl fine | inr b ↦ inr (spares (length o.peers) homes parts c (λ what. weigh_commands what cs + left what) many (regrouped b)) ]
 
-    pub guards_rest : (there : Playing) (memory : ℕ → ℕ → List (Option ℕ)) (p : ℕ) → To o lists m here there → Guard there (after_command o memory p c parts) (λ what. weigh_commands what cs + left what)
+    pub guards_rest : (there : Playing) (memory : Shortage) (p : ℕ) → To o lists m here there → Guard there (after_command o memory p c parts) (λ what. weigh_commands what cs + left what)
     guards_rest there memory p to = elim guard [ inl fine ↦ inl (fine_later o lists m to fine) | inr b ↦ inr (spent (length o.peers) homes parts o memory p c (λ what. weigh_commands what cs + left what) (regrouped b)) ]
 
   pub guards_next : (here there : Playing) (parts : List Part) (left : Quantity → ℕ) → To o lists m here there → Guard here parts (λ what. weigh_commands what [] + left what) → Guard there parts left

@@ -1,6 +1,7 @@
 -- A peer's table and its records are the same after each wire.
 use Rattle.std.proofs.Common.{◌≡◌, ◌⊎◌, inl, inr, refl, sym, ap, ◌∙◌, arith, ℕ, suc, ◌+◌, ◌*◌, ◌%◌, ◌<◌, ◌==◌, Bool, true, false, cond, ◌&&◌, ◌||◌, List, [], ◌∷◌, ◌++◌, Option, Some, None, option_map, subst, if◌then◌else◌}
 use Rattle.std.specs.Prelude.{is_some}
+use Rattle.std.proofs.Math.Bool.{or-false}
 use Rattle.b1_model.specs.declared.naming.NodeRef.{NodeRef}
 use Rattle.b1_model.specs.Names.{is_given, Node, same_node}
 use Rattle.b1_model.specs.Ledger.{Line, Table, line_node, line_number, has_line, raised, gained, received, given_number, handed}
@@ -37,10 +38,6 @@ none_of (Some x) is = absurd (cc is)
 or_true : (b : Bool) → (b || true) ≡ true
 or_true true = refl
 or_true false = refl
-
-or_false : (b : Bool) → (b || false) ≡ b
-or_false true = refl
-or_false false = refl
 
 same_turned : (x y : Node) → same_node y x ≡ same_ref (ref_of x) (ref_of y)
 same_turned x y = ap (λ b. b && (y.serial == x.serial)) (turned y.owner x.owner) ∙ ap (λ b. (x.owner == y.owner) && b) (turned y.serial x.serial)
@@ -80,7 +77,7 @@ module _ (x : Node) (next : ℕ) (handles : List HandleRecord) (up : Rising hand
     where
       by : (b : Bool) → same_ref (ref_of x) (ref_of y) ≡ b → is_some (record_of (ref_of y) made) ≡ (is_some (record_of (ref_of y) handles) || b)
       by true same = ap (λ n. is_some (record_of n made)) (sym (same_ref_is (ref_of x) (ref_of y) same)) ∙ ap is_some (own_made (ref_of x) (more_held next) (λ h. refl) handles up) ∙ sym (or_true (is_some (record_of (ref_of y) handles)))
-      by false apart = ap is_some (other_made (ref_of x) (more_held next) (λ h. refl) (ref_of y) apart handles) ∙ sym (or_false (is_some (record_of (ref_of y) handles)))
+      by false apart = ap is_some (other_made (ref_of x) (more_held next) (λ h. refl) (ref_of y) apart handles) ∙ sym (or-false (is_some (record_of (ref_of y) handles)))
 
 -- ---- a wire
 
@@ -112,7 +109,7 @@ module _ (t : Table) (handles : List HandleRecord) (given : ℕ) (old : TableIs 
 
       stays : (y : Node) (b : Bool) → same_ref (ref_of x) (ref_of y) ≡ b → (is_some (record_of (ref_of y) handles) || b) ≡ is_some (record_of (ref_of y) handles)
       stays y true same = or_true (is_some (record_of (ref_of y) handles)) ∙ sym (ap (λ r. is_some (record_of r handles)) (sym (same_ref_is (ref_of x) (ref_of y) same)) ∙ old.by_node x ∙ ap is_some is)
-      stays y false apart = or_false (is_some (record_of (ref_of y) handles))
+      stays y false apart = or-false (is_some (record_of (ref_of y) handles))
 
   next_same : next_number given ≡ 2 + 4 * t.given
   next_same = ap next_number old.given_is

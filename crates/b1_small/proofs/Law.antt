@@ -9,7 +9,7 @@ use Rattle.b1_step.specs.Fixed.{IsNumbered}
 use Rattle.b1_step.proofs.Numbers.{opening_numbered}
 use Rattle.b1_schedule.specs.Shortage.{Shortage, shortage_of}
 use Rattle.b1_schedule.specs.Schedule.{Playing, Round, Draining, Finished, start_of, IsPlay}
-use Rattle.b1_serial.specs.Serial.{opened, after_lists, serial, memory, IsPlayed, IsPlayedWire, IsPlayable}
+use Rattle.b1_serial.specs.Serial.{opened, after_lists, serial, IsPlayed, IsPlayedWire, IsPlayable}
 use Rattle.b1_serial.proofs.Lists.{Each, each-all, each-weaker}
 use Rattle.std.proofs.lemmas.List.Sums.{sum_by-cons}
 use Rattle.b1_model.specs.declared.answers.Quantity.{Quantity}
@@ -50,17 +50,17 @@ module _ (o : Opening) (lists : List (List Command)) (r : Record) (playable : Is
 
   -- where no quota refuses a send
   module _ (guard : Guard o lists m (homes o wires) at_round (opened o) (λ what. weigh_lists what lists)) where
-    ran : RanAll o lists r (homes o wires) (wiring o wires) at_round (after_lists o (memory r) 0 lists (opened o))
+    ran : RanAll o lists r (homes o wires) (wiring o wires) at_round (after_lists o (shortage_of r) 0 lists (opened o))
     ran = lists_run o lists r (homes o wires) (wiring o wires) lists [] 0 (opening_state o) (opened o) false refl refl playable.count (begins_at_rest o wires playable.even) count
         (record { below = λ i l. absurd (omega (arith, l)); above = λ i l. none_called o wires i }) played guard
 
-    ends : Ends o lists r (homes o wires) (record { state = ran.state; stage = Draining 0 false }) (after_lists o (memory r) 0 lists (opened o))
-    ends = drain_run o lists r (homes o wires) ran.state (after_lists o (memory r) 0 lists (opened o)) ran.count ran.rest
+    ends : Ends o lists r (homes o wires) (record { state = ran.state; stage = Draining 0 false }) (after_lists o (shortage_of r) 0 lists (opened o))
+    ends = drain_run o lists r (homes o wires) ran.state (after_lists o (shortage_of r) 0 lists (opened o)) ran.count ran.rest
 
     to_end : To o lists m (start_of o []) (record { state = ends.state; stage = Finished })
-    to_end = then_to o lists m to_round (then_to o lists m ran.to (then_to o lists m (round_ends o lists r (homes o wires) (wiring o wires) ran.state (after_lists o (memory r) 0 lists (opened o)) ran.gained ran.rest ran.count ran.stands) ends.to))
+    to_end = then_to o lists m to_round (then_to o lists m ran.to (then_to o lists m (round_ends o lists r (homes o wires) (wiring o wires) ran.state (after_lists o (shortage_of r) 0 lists (opened o)) ran.gained ran.rest ran.count ran.stands) ends.to))
 
-    runs_so : r ≡ serial o lists (memory r)
+    runs_so : r ≡ serial o lists (shortage_of r)
     runs_so =
         play.record_is
         ∙ ap record_of_state (sym (one_end o lists m (start_of o []) play.state play.comes.count play.comes.is_at ends.state to_end))
@@ -74,7 +74,7 @@ module _ (o : Opening) (lists : List (List Command)) (r : Record) (playable : Is
   fine : IsWithinQuotas r → Fine o lists m (start_of o [])
   fine within = fine_here o lists m (start_of o []) play.state play.comes.count play.comes.is_at (fine_end play.state (numbered.as_many_peers ∙ sym numbered.as_many_drivers) (subst IsWithinQuotas play.record_is within))
 
-  pub runs_serially : IsWithinQuotas r → r ≡ serial o lists (memory r)
+  pub runs_serially : IsWithinQuotas r → r ≡ serial o lists (shortage_of r)
   runs_serially within = runs_so (inl (fine_later o lists m to_round (fine within)))
 
   -- ---- the script is light
@@ -122,5 +122,5 @@ module _ (o : Opening) (lists : List (List Command)) (r : Record) (playable : Is
         zero_first : (n : ℕ) → 0 + n ≤ n
         zero_first n = omega arith
 
-    pub light_runs_serially : r ≡ serial o lists (memory r)
+    pub light_runs_serially : r ≡ serial o lists (shortage_of r)
     light_runs_serially = runs_so (inr budget)

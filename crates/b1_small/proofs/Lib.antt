@@ -2,7 +2,6 @@ mod Pools
 mod Resting
 mod Boxes
 mod Sends
-mod Wanting
 mod Moves
 mod Rest
 mod Own

@@ -11,7 +11,7 @@ use Rattle.b1_model.specs.MachineOrder.{next_command}
 use Rattle.b1_model.specs.Script.{commands_of}
 use Rattle.b1_schedule.specs.Shortage.{Shortage, shortage_of}
 use Rattle.b1_schedule.specs.Schedule.{Playing, Round, Draining, Stalled, round_at, is_left}
-use Rattle.b1_serial.specs.Serial.{Part, after_command, after_commands, after_lists, memory, IsPlayed}
+use Rattle.b1_serial.specs.Serial.{Part, after_command, after_commands, after_lists, IsPlayed}
 use Rattle.b1_serial.proofs.Lists.{Each, slice_get-some}
 use Rattle.b1_serial.proofs.Parts.{calls_at}
 use Rattle.b1_small.proofs.Resting.{Home}
@@ -72,7 +72,7 @@ module _ (o : Opening) (lists : List (List Command)) (r : Record) (homes : ℕ �
 
   module _ (p : ℕ) (within : p < length o.peers) where
     commands_run : (left : Quantity → ℕ) (cs before : List Command) (s : State) (parts : List Part) (gained : Bool) → Rest homes parts s → length parts ≡ length o.peers → commands_of lists p ≡ before ++ cs → length (calls_at (slice_get parts p)) ≡ length before → Each IsPlayed cs
-        → Guard o lists m homes (record { state = s; stage = Round p gained }) parts (λ what. weigh_commands what cs + left what) → Ran p parts (record { state = s; stage = Round p gained }) (after_commands o (memory r) p cs parts) left
+        → Guard o lists m homes (record { state = s; stage = Round p gained }) parts (λ what. weigh_commands what cs + left what) → Ran p parts (record { state = s; stage = Round p gained }) (after_commands o (shortage_of r) p cs parts) left
     commands_run left [] before s parts gained rest count is done played guard =
         let found = slice_get-some parts p (subst (λ n. p < n) (sym count) within) in
         let h = resting_here o lists r homes s parts rest p found.0 found.1 gained in
@@ -97,8 +97,8 @@ module _ (o : Opening) (lists : List (List Command)) (r : Record) (homes : ℕ �
         let calls_are : calls_at (slice_get parts p) ≡ found.0.calls = ap calls_at found.1 in
         let next : slice_get (commands_of lists p) (length found.0.calls) ≡ Some c = ap (λ k. slice_get (commands_of lists p) k) (sym (ap length calls_are) ∙ done) ∙ ap (λ cs. slice_get cs (length before)) is ∙ get_behind before (c ∷ cs) in
         let goes = command_goes o lists r homes wiring s parts rest count p found.0 found.1 gained within c played.0 next (guards_command o lists m homes (record { state = s; stage = Round p gained }) parts c cs left guard count) in
-        let further = commands_run left cs (before ++ c ∷ []) goes.state (after_command o (memory r) p c parts) true goes.rest (goes.same_count ∙ count) (is ∙ one_more before c cs)
-        (ap length goes.own ∙ length_more (calls_at (slice_get parts p)) goes.got ∙ ap (λ n. n + 1) done ∙ sym (length_more before c)) played.1 (guards_rest o lists m homes (record { state = s; stage = Round p gained }) parts c cs left guard (record { state = goes.state; stage = Round p true }) (memory r) p goes.to) in
+        let further = commands_run left cs (before ++ c ∷ []) goes.state (after_command o (shortage_of r) p c parts) true goes.rest (goes.same_count ∙ count) (is ∙ one_more before c cs)
+        (ap length goes.own ∙ length_more (calls_at (slice_get parts p)) goes.got ∙ ap (λ n. n + 1) done ∙ sym (length_more before c)) played.1 (guards_rest o lists m homes (record { state = s; stage = Round p gained }) parts c cs left guard (record { state = goes.state; stage = Round p true }) (shortage_of r) p goes.to) in
         record {
           state = further.state;
           gained = further.gained;
@@ -126,7 +126,7 @@ module _ (o : Opening) (lists : List (List Command)) (r : Record) (homes : ℕ �
     pub stands : Stands (length o.peers) after
 
   pub lists_run : (later before : List (List Command)) (p : ℕ) (s : State) (parts : List Part) (gained : Bool) → lists ≡ before ++ later → p ≡ length before → length lists ≡ length o.peers → Rest homes parts s → length parts ≡ length o.peers → Stands p parts → Each (Each IsPlayed) later
-      → Guard o lists m homes (record { state = s; stage = Round p gained }) parts (λ what. weigh_lists what later) → RanAll (record { state = s; stage = Round p gained }) (after_lists o (memory r) p later parts)
+      → Guard o lists m homes (record { state = s; stage = Round p gained }) parts (λ what. weigh_lists what later) → RanAll (record { state = s; stage = Round p gained }) (after_lists o (shortage_of r) p later parts)
   lists_run [] before p s parts gained is at many rest count stands played guard =
       let end : p ≡ length o.peers = at ∙ ap length (sym (is ∙ append-nil before)) ∙ many in
       record {
@@ -144,13 +144,13 @@ module _ (o : Opening) (lists : List (List Command)) (r : Record) (homes : ℕ �
       let none : length (calls_at (slice_get parts p)) ≡ 0 = ap length (stands.above p (same_or_above p)) in
       let ran = commands_run p within (λ what. weigh_lists what later) cs [] s parts gained rest count commands_are none played.0 guard in
       let ran_to : To o lists m (record { state = s; stage = Round p gained }) (record { state = ran.state; stage = Round (suc p) ran.gained }) = subst (λ n. To o lists m (record { state = s; stage = Round p gained }) (record { state = ran.state; stage = Round n ran.gained })) (next p) ran.to in
-      let further = lists_run later (before ++ cs ∷ []) (suc p) ran.state (after_commands o (memory r) p cs parts) ran.gained (is ∙ one_more before cs later) (ap suc at ∙ next_length before cs) many ran.rest ran.count (record {
+      let further = lists_run later (before ++ cs ∷ []) (suc p) ran.state (after_commands o (shortage_of r) p cs parts) ran.gained (is ∙ one_more before cs later) (ap suc at ∙ next_length before cs) many ran.rest ran.count (record {
         below = λ i l. elim (cases_eq i p) [
-          | inl same ↦ ap (λ k. length (calls_at (slice_get (after_commands o (memory r) p cs parts) k))) same ∙ ran.own ∙ ap (λ k. length (commands_of lists k)) (sym same)
+          | inl same ↦ ap (λ k. length (calls_at (slice_get (after_commands o (shortage_of r) p cs parts) k))) same ∙ ran.own ∙ ap (λ k. length (commands_of lists k)) (sym same)
           | inr apart ↦ ap length (ran.others i apart) ∙ stands.below i (less_below i p apart l)
         ];
         above = λ i l. ran.others i (apart_above i p l) ∙ stands.above i (less_above i p l);
-      }) played.1 (subst (λ n. Guard o lists m homes (record { state = ran.state; stage = Round n ran.gained }) (after_commands o (memory r) p cs parts) (λ what. weigh_lists what later)) (next p) ran.guard) in
+      }) played.1 (subst (λ n. Guard o lists m homes (record { state = ran.state; stage = Round n ran.gained }) (after_commands o (shortage_of r) p cs parts) (λ what. weigh_lists what later)) (next p) ran.guard) in
       record {
         state = further.state;
         gained = further.gained;

@@ -8,7 +8,7 @@ use Rattle.b1_model.specs.declared.commands.Command.TheVariants as cmd
 use Rattle.b1_model.specs.declared.records.Record.{Record}
 use Rattle.b1_schedule.specs.Shortage.{shortage_of}
 use Rattle.b1_schedule.specs.Schedule.{start_of, moves, IsPlay}
-use Rattle.b1_serial.specs.Serial.{serial, memory}
+use Rattle.b1_serial.specs.Serial.{serial}
 use Rattle.b1_small.proofs.Resting.{plain}
 
 abbrev opening : Opening
@@ -37,5 +37,5 @@ is_played = record {
   record_is = refl;
 }
 
-is_serial : row ≡ serial opening lists (memory row)
+is_serial : row ≡ serial opening lists (shortage_of row)
 is_serial = refl

@@ -8,7 +8,7 @@ use Rattle.b1_model.specs.declared.commands.Command.{Command}
 use Rattle.b1_model.specs.declared.records.Record.{Record}
 use Rattle.b1_schedule.specs.Shortage.{shortage_of}
 use Rattle.b1_schedule.specs.Schedule.{start_of, moves, IsPlay}
-use Rattle.b1_serial.specs.Serial.{serial, memory}
+use Rattle.b1_serial.specs.Serial.{serial}
 use Rattle.b1_small.proofs.Resting.{plain}
 
 abbrev opening : Opening
@@ -41,5 +41,5 @@ is_played = record {
 abbrev clock_of_1 : Record → ℕ
 clock_of_1 r = elim (slice_get r.peers 1) [ None ↦ 0 | Some x ↦ x.clock ]
 
-is_not_serial : row ≡ serial opening lists (memory row) → ⊥
+is_not_serial : row ≡ serial opening lists (shortage_of row) → ⊥
 is_not_serial same = let clocks : 0 ≡ 2 = ap clock_of_1 same in absurd (omega (arith, clocks))

@@ -2,7 +2,7 @@
 use Rattle.std.proofs.Common.{◌≡◌, ◌⊎◌, inl, inr, refl, sym, ap, ◌∙◌, arith, ℕ, ◌+◌, ◌*◌, ◌/◌, ◌%◌, ◌<◌, ◌≤◌, ◌==◌, max, Bool, true, false, cond, not, ◌||◌, nat_lt, nat_le, List, [], ◌∷◌, length, Option, Some, None, get_or, subst, Ok, Err, option_map, if◌then◌else◌}
 use Rattle.std.specs.Prelude.{filter_map, is_none}
 use Rattle.std.specs.Bool.{then_some}
-use Rattle.std.specs.List.{list_any, cons_option}
+use Rattle.std.specs.List.{cons_option}
 use Rattle.b1_model.specs.declared.naming.Key.{Key}
 use Rattle.b1_model.specs.declared.naming.NodeRef.{NodeRef}
 use Rattle.b1_model.specs.declared.entries.Entry.{Entry}
@@ -19,7 +19,7 @@ use Rattle.b1_model.specs.MachinePool.{slice_len, taken, taken_offset, largest_f
 use Rattle.b1_model.specs.MachineTables.{put, node_named, amount, within_quota, charged, limit_of}
 use Rattle.b1_model.specs.MachineSend.{send_refusal, stage_refusal, first_reason, is_bad_send}
 use Rattle.b1_model.specs.MachineEvents.{begin_by, begin_event, stage_by, stage_event}
-use Rattle.b1_serial.specs.Serial.{Part, is_begin, is_first, begin_refusal, place_refusal, refused, slice_length, slice_offset}
+use Rattle.b1_serial.specs.Serial.{Part, begin_refusal, place_refusal, refused, slice_length, slice_offset}
 use Rattle.b1_pool.specs.declared.slices.Slice.{Slice as Pool}
 use Rattle.b1_pool.specs.Slices.{has_fit, least_fit, with_alloc, largest_free as largest}
 use Rattle.b1_small.specs.Quotas.{is_quota}
@@ -67,16 +67,16 @@ module _ (p : ℕ) (h : Home) (clock : ℕ) (slices : List Slice) (queue : List 
   begins_by false false (Some one) named =
       inr (one, refl, ap (λ r. begin_by (reasons false false false (is_none r)) false (plain_send number payload) sender) named ∙ ap (λ to. (out.Begin (Ok (record { to = to; with = [] })), sender)) (filter_one (node_named sender) number (ref_of one) named), refl)
 
-  begins_node : (node : Option Node) (places : List (Option ℕ)) → node_named sender number ≡ option_map ref_of node
-      → Begins sender node (begin_by (reasons false false (nat_le clock_limit clock) (is_none (node_named sender number))) (list_any is_begin places) (plain_send number payload) sender) (begin_refusal clock number node places)
-  begins_node None places named = begins_by (nat_le clock_limit clock) (list_any is_begin places) None named
-  begins_node (Some one) places named = begins_by (nat_le clock_limit clock) (list_any is_begin places) (Some one) named
+  begins_node : (node : Option Node) (places : Option ℕ → Bool) → node_named sender number ≡ option_map ref_of node
+      → Begins sender node (begin_by (reasons false false (nat_le clock_limit clock) (is_none (node_named sender number))) (places None) (plain_send number payload) sender) (begin_refusal clock number node places)
+  begins_node None places named = begins_by (nat_le clock_limit clock) (places None) None named
+  begins_node (Some one) places named = begins_by (nat_le clock_limit clock) (places None) (Some one) named
 
-  pub begins : (found : Option Node) (places : List (Option ℕ)) → number % 2 ≡ 0 → length payload ≤ 65536 → node_named sender number ≡ option_map ref_of found
-      → Begins sender found (begin_event (list_any is_begin places) (plain_send number payload) sender) (begin_refusal clock number found places)
+  pub begins : (found : Option Node) (places : Option ℕ → Bool) → number % 2 ≡ 0 → length payload ≤ 65536 → node_named sender number ≡ option_map ref_of found
+      → Begins sender found (begin_event (places None) (plain_send number payload) sender) (begin_refusal clock number found places)
   begins found places even small named =
-      subst (λ bad. Begins sender found (begin_by (reasons bad (nat_lt 65536 (length payload)) (nat_le clock_limit clock) (is_none (node_named sender number))) (list_any is_begin places) (plain_send number payload) sender) (begin_refusal clock number found places)) (sym (bad_is even))
-      (subst (λ large. Begins sender found (begin_by (reasons false large (nat_le clock_limit clock) (is_none (node_named sender number))) (list_any is_begin places) (plain_send number payload) sender) (begin_refusal clock number found places)) (sym (large_is small))
+      subst (λ bad. Begins sender found (begin_by (reasons bad (nat_lt 65536 (length payload)) (nat_le clock_limit clock) (is_none (node_named sender number))) (places None) (plain_send number payload) sender) (begin_refusal clock number found places)) (sym (bad_is even))
+      (subst (λ large. Begins sender found (begin_by (reasons false large (nat_le clock_limit clock) (is_none (node_named sender number))) (places None) (plain_send number payload) sender) (begin_refusal clock number found places)) (sym (large_is small))
       (begins_node found places named))
 
 -- a slice's length
@@ -136,18 +136,18 @@ module _ (q : ℕ) (h : Home) (queue : List (Key × Entry)) (p user serial : ℕ
   full_is : nat_lt (largest_free (pieces part.slices)) (slice_length payload) ≡ not (has_fit (slice_length payload) part.slices)
   full_is = ap (λ most. nat_lt most (slice_length payload)) (largest_same part.slices) ∙ full_same (slice_length payload) part.slices some_length
 
-  pub stages : (places : List (Option ℕ)) → is_live (get_or h.nodes serial no_node).state ≡ true
-      → Stages receiver with_stage (has_fit (slice_length payload) part.slices) (stage_event (list_any is_first places) p user 0 serial payload [] receiver) (place_refusal (slice_length payload) part places)
+  pub stages : (places : Option ℕ → Bool) → is_live (get_or h.nodes serial no_node).state ≡ true
+      → Stages receiver with_stage (has_fit (slice_length payload) part.slices) (stage_event (places (Some 0)) p user 0 serial payload [] receiver) (place_refusal (slice_length payload) part places)
   stages places live =
       let len = slice_length payload in
-      subst (λ r. Stages receiver with_stage (has_fit len part.slices) (staged_by r (list_any is_first places)) (place_refusal len part places))
+      subst (λ r. Stages receiver with_stage (has_fit len part.slices) (staged_by r (places (Some 0))) (place_refusal len part places))
       (sym (
       ap (λ b. place_reasons (not b) (nat_le clock_limit part.clock) (within Entries) (within Bytes) (nat_lt (largest_free (pieces part.slices)) (slice_len (length payload) 0)) (slice_len (length payload) 0) (largest_free (pieces part.slices))) live
       ∙ ap (λ n. place_reasons false (nat_le clock_limit part.clock) (within Entries) (within Bytes) (nat_lt (largest_free (pieces part.slices)) n) n (largest_free (pieces part.slices))) (len_is payload)
       ∙ ap (λ b. place_reasons false (nat_le clock_limit part.clock) (within Entries) (within Bytes) b len (largest_free (pieces part.slices))) full_is
       ∙ ap (λ most. place_reasons false (nat_le clock_limit part.clock) (within Entries) (within Bytes) (not (has_fit len part.slices)) len most) (largest_same part.slices)
       ))
-      (stages_by (nat_le clock_limit part.clock) (within Entries) (within Bytes) (has_fit len part.slices) (list_any is_first places) len (largest part.slices))
+      (stages_by (nat_le clock_limit part.clock) (within Entries) (within Bytes) (has_fit len part.slices) (places (Some 0)) len (largest part.slices))
 
   -- where the quotas have room, none of them refuses
   reason_is : (a r : Reason) → ◌≡◌ {A = Outcome × PeerPart} (out.Stage (Err a), receiver) (out.Stage (Err r), receiver) → is_quota a ≡ false → is_quota r ≡ true → ⊥

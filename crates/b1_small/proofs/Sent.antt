@@ -22,7 +22,7 @@ use Rattle.b1_model.specs.MachineStep.{with_parts}
 use Rattle.b1_model.specs.Script.{resolved, commands_of}
 use Rattle.b1_schedule.specs.Shortage.{Shortage, shortage_of}
 use Rattle.b1_schedule.specs.Schedule.{Playing, Round, round_after}
-use Rattle.b1_serial.specs.Serial.{Part, at_peer, called, accepted, delivered, memory, begin_refusal, place_refusal, slice_length, slice_offset, stamp_of_send, own_number, sent, sent_or_refused, sent_to, sent_by, clock_of, after_send}
+use Rattle.b1_serial.specs.Serial.{Part, at_peer, called, accepted, delivered, begin_refusal, place_refusal, slice_length, slice_offset, stamp_of_send, own_number, sent, sent_or_refused, sent_to, sent_by, clock_of, after_send}
 use Rattle.b1_serial.specs.Serial.{node_named as names}
 use Rattle.b1_serial.proofs.Lists.{slice_get-some, slice_get-end}
 use Rattle.b1_serial.proofs.Parts.{calls_at, at_calls, at_same, at_other, at_length}
@@ -32,7 +32,6 @@ use Rattle.b1_small.proofs.Pools.{pieces}
 use Rattle.b1_small.proofs.Resting.{Home, at_home, resting, busy, refusal, message, plain, plain_send, sending, begin_effect, stage_effect}
 use Rattle.b1_small.proofs.Boxes.{AreBoxed, boxed_later, boxed_more}
 use Rattle.b1_small.proofs.Sends.{ref_of, Begins, begins, Stages, stages, with_stage, offset_is, slices_are, no_quota}
-use Rattle.b1_small.proofs.Wanting.{short_begin, short_first}
 use Rattle.b1_small.proofs.Moves.{To, then_to, begin_move, go_move, ends_called}
 use Rattle.b1_small.proofs.Rest.{IsResting, RestsAt, Rest, Wiring, rest_two}
 use Rattle.b1_small.proofs.Own.{local_refused, Goes, own_goes, resting_here, peer_here, is_peer_here, is_driver_here}
@@ -50,8 +49,8 @@ module _ (o : Opening) (lists : List (List Command)) (r : Record) (homes : ℕ �
   abbrev m : Shortage
   m = shortage_of r
 
-  abbrev places : List (Option ℕ)
-  places = memory r p (length part.calls)
+  abbrev places : Option ℕ → Bool
+  places = shortage_of r p (length part.calls)
 
   abbrev here : Playing
   here = record { state = s; stage = Round p gained }
@@ -69,7 +68,7 @@ module _ (o : Opening) (lists : List (List Command)) (r : Record) (homes : ℕ �
   is_d = is_driver_here o lists r homes s parts rest p part is gained
 
   begins_here : Begins x (names o p number) (begin_event (m p (length part.calls) None) (plain_send number payload) x) (begin_refusal part.clock number (names o p number) places)
-  begins_here = subst (λ b. Begins x (names o p number) (begin_event b (plain_send number payload) x) (begin_refusal part.clock number (names o p number) places)) (sym (short_begin r p (length part.calls)))
+  begins_here =
       (begins p (homes p) part.clock (pieces part.slices) rests.queue number payload (names o p number) places even small (wiring.named p number within))
 
   -- ---- a begin that is refused
@@ -114,7 +113,7 @@ module _ (o : Opening) (lists : List (List Command)) (r : Record) (homes : ℕ �
     z = with_stage q (homes q) there.queue p (user_of o p) one.serial payload other
 
     stages_here : Stages y z (has_fit (slice_length payload) other.slices) (stage_event (m p (length part.calls) (Some 0)) p (user_of o p) 0 one.serial payload [] y) (place_refusal (slice_length payload) other places)
-    stages_here = subst (λ b. Stages y z (has_fit (slice_length payload) other.slices) (stage_event b p (user_of o p) 0 one.serial payload [] y) (place_refusal (slice_length payload) other places)) (sym (short_first r p (length part.calls)))
+    stages_here =
         (stages q (homes q) there.queue p (user_of o p) one.serial payload other places (wiring.live p number one within named))
 
     -- ---- a stage that is refused

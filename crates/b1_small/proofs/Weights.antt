@@ -14,6 +14,7 @@ use Rattle.b1_model.specs.Names.{Node}
 use Rattle.b1_model.specs.MachineParts.{NodePart}
 use Rattle.b1_model.specs.MachineTables.{amount, charged, within_quota}
 use Rattle.b1_serial.specs.declared.Boxed.{Boxed}
+use Rattle.b1_schedule.specs.Shortage.{Shortage}
 use Rattle.b1_serial.specs.Serial.{Part, at_peer, called, accepted, delivered, received_from, after_recv, after_slice_release, sent, sent_or_refused, sent_to, sent_by, own_number, begin_refusal, place_refusal, slice_length, stamp_of_send, clock_of, node_named, after_send, after_command, calls_count}
 use Rattle.b1_serial.proofs.Parts.{at_back}
 use Rattle.b1_pool.specs.Slices.{begins, is_published}
@@ -95,7 +96,7 @@ module _ (what : Quantity) where
   same_weight n more = omega arith
 
   -- a send
-  module _ (o : Opening) (short : List (Option ℕ)) (p : ℕ) (s : SendCmd) (parts : List Part) (most : ℕ) (old : Bounded most parts) where
+  module _ (o : Opening) (short : Option ℕ → Bool) (p : ℕ) (s : SendCmd) (parts : List Part) (most : ℕ) (old : Bounded most parts) where
     abbrev more : ℕ
     more = amount what (length s.payload) 0
 
@@ -143,7 +144,7 @@ module _ (what : Quantity) where
       by true = same_weight (weigh what x.waiting) 0
       by false = same_weight (weigh what x.waiting) 0
 
-  pub command_bounded : (o : Opening) (m : ℕ → ℕ → List (Option ℕ)) (p : ℕ) (c : Command) (parts : List Part) (most : ℕ) → Bounded most parts → Bounded (most + weight_of c) (after_command o m p c parts)
+  pub command_bounded : (o : Opening) (m : Shortage) (p : ℕ) (c : Command) (parts : List Part) (most : ℕ) → Bounded most parts → Bounded (most + weight_of c) (after_command o m p c parts)
   command_bounded o m p (cmd.Send s) parts most old = send_bounded o (m p (calls_count (slice_get parts p))) p s parts most old
   command_bounded o m p cmd.Recv parts most old = bounded_at most 0 p after_recv parts (λ x. recv_weight x.waiting x refl) old
   command_bounded o m p (cmd.SliceRelease offset) parts most old = bounded_at most 0 p (after_slice_release offset) parts (release_weight offset) old

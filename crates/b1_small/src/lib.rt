@@ -12,7 +12,8 @@ ghost use Rattle.b1_model.specs.declared.records.Record.{Record};
 ghost use Rattle.b1_model.specs.Legal.{Legal, Whole};
 ghost use Rattle.b1_model.specs.Script.{Script};
 ghost use Rattle.b1_schedule.specs.Schedule.{IsPlay};
-ghost use Rattle.b1_serial.specs.Serial.{serial, memory, IsPlayable};
+ghost use Rattle.b1_schedule.specs.Shortage.{shortage_of};
+ghost use Rattle.b1_serial.specs.Serial.{serial, IsPlayable};
 ghost use Rattle.b1_serial.specs.Calls.{IsAllSerial};
 ghost use Rattle.b1_small.specs.Quotas.{IsWithinQuotas, IsLight, MeetsNoQuota};
 
@@ -22,8 +23,8 @@ use b1_serial::every_serial_record_is_legal;
 /// the serial bus's, with memory wanting as the record shows, if no quota refuses a call of it; and none does where
 /// all sends together have no more entries and bytes than half of each peer's limits.
 pub fn small_scripts_run_serially()
-    ensures within { (o : Opening) (lists : List (List Command)) (r : Record) → IsPlayable o lists → IsWithinQuotas r → IsPlay o lists [] r → r ≡ serial o lists (memory r) }
-    ensures light { (o : Opening) (lists : List (List Command)) (r : Record) → IsPlayable o lists → IsLight o lists → IsPlay o lists [] r → r ≡ serial o lists (memory r) }
+    ensures within { (o : Opening) (lists : List (List Command)) (r : Record) → IsPlayable o lists → IsWithinQuotas r → IsPlay o lists [] r → r ≡ serial o lists (shortage_of r) }
+    ensures light { (o : Opening) (lists : List (List Command)) (r : Record) → IsPlayable o lists → IsLight o lists → IsPlay o lists [] r → r ≡ serial o lists (shortage_of r) }
 {}
 
 /// So this record is legal, nothing is left to receive, and its calls are the script's and of these three kinds.

@@ -2,6 +2,7 @@
 use Rattle.std.proofs.Common.{◌≡◌, ◌≢◌, ◌⊎◌, refl, sym, ap, ◌∙◌, inl, inr, ℕ, ◌≤◌, Bool, true, false, length, Option, Some, None, subst, option_map, ◌++◌}
 use Rattle.std.specs.Prelude.{slice_get}
 use Rattle.std.proofs.lemmas.List.{length-set}
+use Rattle.std.proofs.lemmas.Option.{same_Some}
 use native.Mathlib.Omega.{arith}
 use Rattle.b1_model.specs.declared.commands.Command.{Command}
 use Rattle.b1_model.specs.declared.naming.Opening.{Opening}
@@ -67,9 +68,6 @@ extends o s p command d action at x e y is_driver is_target is_peer local = reco
 
 -- ---- a step as a function
 
-some_same : {A : Type 0} (x y : A) → Some x ≡ Some y → x ≡ y
-some_same x y same = cc same
-
 pub computed : {o : Opening} {s : State} {p : ℕ} {command : Option Command} {t : State} (step : Step o s p command t) → stepped o step.local.memory p command s ≡ Some t
 computed {o} {s} {p} {command} {t} step =
     ap (stepped_by o step.local.memory p command s) step.is_driver
@@ -82,38 +80,38 @@ computed {o} {s} {p} {command} {t} step =
     together step = λ i. record { peers = sym step.peers i; drivers = sym step.drivers i }
 
 pub one_result : {o : Opening} {s : State} {p : ℕ} {command : Option Command} {t u : State} (a : Step o s p command t) (b : Step o s p command u) → a.local.memory ≡ b.local.memory → t ≡ u
-one_result {o} {s} {p} {command} {t} {u} a b memory = some_same t u (sym (computed a) ∙ ap (λ m. stepped o m p command s) memory ∙ computed b)
+one_result {o} {s} {p} {command} {t} {u} a b memory = same_Some t u (sym (computed a) ∙ ap (λ m. stepped o m p command s) memory ∙ computed b)
 
 -- ---- what an event may change, of two parts and of a state
 
 begun_number : (d e : DriverPart) (doing : Option Doing) (command : Option Command) → begun_by d doing command ≡ Some e → e.me ≡ d.me
 begun_number d e None None is = absurd (cc is)
-begun_number d e None (Some c) is = sym (ap (λ f. f.me) (some_same _ e is))
-begun_number d e (Some doing) None is = sym (ap (λ f. f.me) (some_same d e is))
+begun_number d e None (Some c) is = sym (ap (λ f. f.me) (same_Some _ e is))
+begun_number d e (Some doing) None is = sym (ap (λ f. f.me) (same_Some d e is))
 begun_number d e (Some doing) (Some c) is = absurd (cc is)
 
 begun_calls : (d e : DriverPart) (doing : Option Doing) (command : Option Command) → begun_by d doing command ≡ Some e → e.calls ≡ d.calls
 begun_calls d e None None is = absurd (cc is)
-begun_calls d e None (Some c) is = sym (ap (λ f. f.calls) (some_same _ e is))
-begun_calls d e (Some doing) None is = sym (ap (λ f. f.calls) (some_same d e is))
+begun_calls d e None (Some c) is = sym (ap (λ f. f.calls) (same_Some _ e is))
+begun_calls d e (Some doing) None is = sym (ap (λ f. f.calls) (same_Some d e is))
 begun_calls d e (Some doing) (Some c) is = absurd (cc is)
 
 begun_shut : (d e : DriverPart) (doing : Option Doing) (command : Option Command) → begun_by d doing command ≡ Some e → e.shut ≡ d.shut
 begun_shut d e None None is = absurd (cc is)
-begun_shut d e None (Some c) is = sym (ap (λ f. f.shut) (some_same _ e is))
-begun_shut d e (Some doing) None is = sym (ap (λ f. f.shut) (some_same d e is))
+begun_shut d e None (Some c) is = sym (ap (λ f. f.shut) (same_Some _ e is))
+begun_shut d e (Some doing) None is = sym (ap (λ f. f.shut) (same_Some d e is))
 begun_shut d e (Some doing) (Some c) is = absurd (cc is)
 
 begun_list : (d e : DriverPart) (doing : Option Doing) (command : Option Command) → d.doing ≡ doing → begun_by d doing command ≡ Some e → driver_calls e ≡ driver_calls d
 begun_list d e None None open_is is = absurd (cc is)
-begun_list d e None (Some c) open_is is = sym (ap driver_calls (some_same _ e is)) ∙ sym (ap (λ doing. d.calls ++ open_by doing) open_is)
-begun_list d e (Some doing) None open_is is = sym (ap driver_calls (some_same d e is))
+begun_list d e None (Some c) open_is is = sym (ap driver_calls (same_Some _ e is)) ∙ sym (ap (λ doing. d.calls ++ open_by doing) open_is)
+begun_list d e (Some doing) None open_is is = sym (ap driver_calls (same_Some d e is))
 begun_list d e (Some doing) (Some c) open_is is = absurd (cc is)
 
 begun_doing : (d e : DriverPart) (doing : Option Doing) (command : Option Command) → d.doing ≡ doing → begun_by d doing command ≡ Some e → (one : Doing) × (e.doing ≡ Some one)
 begun_doing d e None None open_is is = absurd (cc is)
-begun_doing d e None (Some c) open_is is = (record { command = c; phase = Starting }, sym (ap (λ f. f.doing) (some_same _ e is)))
-begun_doing d e (Some doing) None open_is is = (doing, sym (ap (λ f. f.doing) (some_same d e is)) ∙ open_is)
+begun_doing d e None (Some c) open_is is = (record { command = c; phase = Starting }, sym (ap (λ f. f.doing) (same_Some _ e is)))
+begun_doing d e (Some doing) None open_is is = (doing, sym (ap (λ f. f.doing) (same_Some d e is)) ∙ open_is)
 begun_doing d e (Some doing) (Some c) open_is is = absurd (cc is)
 
 -- the driver's part with the open command, or with the one that begins, and what its event does
@@ -147,7 +145,7 @@ module _ (o : Opening) (memory : Bool) (d : DriverPart) (command : Option Comman
   at_begun None is_begun is_target = absurd (cc is_target)
   at_begun (Some e) is_begun is_target =
       let found = begun_doing d e d.doing command refl is_begun in
-      at_action e found.0 is_begun found.1 (begun_number d e d.doing command is_begun) (begun_calls d e d.doing command is_begun) (begun_shut d e d.doing command is_begun) (begun_list d e d.doing command refl is_begun) (some_same (aimed e) (action, at) is_target)
+      at_action e found.0 is_begun found.1 (begun_number d e d.doing command is_begun) (begun_calls d e d.doing command is_begun) (begun_shut d e d.doing command is_begun) (begun_list d e d.doing command refl is_begun) (same_Some (aimed e) (action, at) is_target)
 
   pub happened : target d command ≡ Some (action, at) → Happened o memory d command x action at
   happened is_target = at_begun (begun d command) refl is_target
@@ -211,9 +209,9 @@ module _ {o : Opening} {s : State} {p : ℕ} {command : Option Command} {t : Sta
 
   clock_of : (q : ℕ) (x y : PeerPart) → slice_get s.peers q ≡ Some x → slice_get t.peers q ≡ Some y → ((q ≡ step.at) × (y ≡ step.new_peer)) ⊎ ((q ≢ step.at) × (slice_get s.peers q ≡ Some y)) → x.clock ≤ y.clock
   clock_of q x y before after (inl here) =
-      let at_x : x ≡ step.peer = some_same x step.peer (sym before ∙ ap (slice_get s.peers) here.0 ∙ step.is_peer) in
+      let at_x : x ≡ step.peer = same_Some x step.peer (sym before ∙ ap (slice_get s.peers) here.0 ∙ step.is_peer) in
       rw (at_x, here.1) clock_at
-  clock_of q x y before after (inr there) = let same : x ≡ y = some_same x y (sym before ∙ there.1) in omega (arith, ap (λ z. z.clock) same)
+  clock_of q x y before after (inr there) = let same : x ≡ y = same_Some x y (sym before ∙ there.1) in omega (arith, ap (λ z. z.clock) same)
 
   -- no clock falls
   pub clocks_rise : (q : ℕ) (x y : PeerPart) → slice_get s.peers q ≡ Some x → slice_get t.peers q ≡ Some y → x.clock ≤ y.clock

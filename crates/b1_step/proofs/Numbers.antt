@@ -2,6 +2,7 @@
 use Rattle.std.proofs.Common.{◌≡◌, ◌≢◌, ◌⊎◌, refl, sym, ap, ◌∙◌, inl, inr, ℕ, zero, suc, ◌+◌, true, false, cond, List, [], ◌∷◌, fold, get_or, length, set, Option, Some, None, subst}
 use Rattle.std.specs.Prelude.{slice_get}
 use Rattle.std.proofs.lemmas.List.{length-set}
+use Rattle.std.proofs.lemmas.Option.{same_Some}
 use native.Mathlib.Omega.{arith}
 use Rattle.b1_model.specs.declared.commands.Command.{Command}
 use Rattle.b1_model.specs.declared.naming.NodeRef.{NodeRef}
@@ -50,15 +51,12 @@ still_peer o q x y same k = record { me = same.me ∙ k.me; peers = same.peers �
 abbrev ArePeers : Opening → List PeerPart → Type 0
 ArePeers o xs = (q : ℕ) (x : PeerPart) → slice_get xs q ≡ Some x → IsPeerOf o q x
 
-some_is : {A : Type 0} (x y : A) → Some x ≡ Some y → x ≡ y
-some_is x y same = cc same
-
 module _ (o : Opening) where
   -- the peers from a number on
   before_from : (here : ℕ) (specs : List PeerSpec) (q : ℕ) (x : PeerPart) → ((i : ℕ) (spec : PeerSpec) → slice_get specs i ≡ Some spec → slice_get o.peers (here + i) ≡ Some spec) → slice_get (peers_before o here specs) q ≡ Some x → IsPeerOf o (here + q) x
   before_from here [] q x within is = absurd (cc is)
   before_from here (spec ∷ rest) zero x within is =
-      let same : peer_before o here spec ≡ x = some_is _ x is in
+      let same : peer_before o here spec ≡ x = same_Some _ x is in
       subst (IsPeerOf o (here + 0)) same (record { me = omega arith; peers = refl; spec = spec; is_spec = within 0 spec refl; user = refl; pool = refl })
   before_from here (spec ∷ rest) (suc q) x within is =
       let moved : (here + 1) + q ≡ here + suc q = omega arith in
@@ -112,7 +110,7 @@ idle_count here (spec ∷ rest) = ap suc (idle_count (here + 1) rest)
 
 idle_number : (here : ℕ) (specs : List PeerSpec) (p : ℕ) (d : DriverPart) → slice_get (idle_drivers here specs) p ≡ Some d → d.me ≡ here + p
 idle_number here [] p d is = absurd (cc is)
-idle_number here (spec ∷ rest) zero d is = sym (ap (λ e. e.me) (some_is _ d is)) ∙ omega arith
+idle_number here (spec ∷ rest) zero d is = sym (ap (λ e. e.me) (same_Some _ d is)) ∙ omega arith
 idle_number here (spec ∷ rest) (suc p) d is = idle_number (here + 1) rest p d is ∙ omega arith
 
 pub opening_numbered : (o : Opening) → IsNumbered o (opening_state o)

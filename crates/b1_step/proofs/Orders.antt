@@ -4,7 +4,7 @@ use Rattle.std.specs.Cmp.{IsTotalOrder, nat_cmp_total}
 use Rattle.std.specs.Ordering.{is_lt, nat_cmp, ordering_then, ordering_reverse}
 use Rattle.std.specs.declared.cmp.Ordering.{Ordering}
 use Rattle.std.specs.declared.cmp.Ordering.TheVariants.{Less, Equal, Greater}
-use Rattle.std.proofs.lemmas.Bool.{eqb-true, eq-eqb}
+use Rattle.std.proofs.lemmas.Bool.{eqb-true, eq-eqb, and_parts}
 use Rattle.std.proofs.lemmas.Cmp.{on_total, then_total, tied_itself}
 use Rattle.std.proofs.lemmas.Map.Lookups.{exact_unsigned}
 use native.Mathlib.Omega.{arith}
@@ -144,13 +144,9 @@ find_none test (g ∷ rest) f is h = missed (find_none test rest f) (test g) ref
 
 -- ---- nodes
 
-and_true : (a b : Bool) → (a && b) ≡ true → (a ≡ true) × (b ≡ true)
-and_true true b is = (refl, is)
-and_true false b is = absurd (cc is)
-
 pub same_ref_is : (a b : NodeRef) → same_ref a b ≡ true → a ≡ b
 same_ref_is a b is =
-    let both = and_true (a.owner == b.owner) (a.serial == b.serial) is in
+    let both = and_parts (a.owner == b.owner) (a.serial == b.serial) is in
     λ i. record { owner = eqb-true a.owner b.owner both.0 i; serial = eqb-true a.serial b.serial both.1 i }
 
 pub same_ref_itself : (a : NodeRef) → same_ref a a ≡ true

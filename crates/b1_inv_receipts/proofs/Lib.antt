@@ -1,0 +1,3 @@
+pub mod Received
+pub mod Turns
+pub mod Kept

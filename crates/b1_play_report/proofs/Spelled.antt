@@ -1,0 +1,157 @@
+-- The calls of a played script have lines of their own.
+use Rattle.std.proofs.Common.{◌≡◌, ◌⊎◌, refl, sym, ap, ◌∙◌, inl, inr, subst, ℕ, zero, suc, Bool, true, false, cond, List, [], ◌∷◌, ◌++◌, take, slice_get, Option, Some, None}
+use Rattle.std.specs.Prelude.{⊤, All}
+use Rattle.std.specs.List.{AllByRecursion}
+use Rattle.std.proofs.lemmas.List.Elements.{All-nil, All-cons}
+use Rattle.b1_model.specs.declared.naming.Opening.{Opening}
+use Rattle.b1_model.specs.declared.answers.Answer.{Answer}
+use Rattle.b1_model.specs.declared.answers.Answer.TheVariants as answer
+use Rattle.b1_model.specs.declared.commands.Command.{Command}
+use Rattle.b1_model.specs.declared.commands.Command.TheVariants as cmd
+use Rattle.b1_model.specs.declared.records.Call.{Call}
+use Rattle.b1_model.specs.declared.records.PeerCalls.{PeerCalls}
+use Rattle.b1_model.specs.declared.records.Record.{Record}
+use Rattle.b1_model.specs.declared.events.Doing.{Doing}
+use Rattle.b1_model.specs.Opening.{IsOpening}
+use Rattle.b1_model.specs.Script.{resolved, fits, ends_await, is_receipt, IsInPlace, commands_of}
+use Rattle.b1_model.specs.MachineParts.{PeerPart, DriverPart}
+use Rattle.b1_model.specs.MachineTook.{is_waiting, as_call, call_of, answer_of, fixed_call, open_by, driver_calls}
+use Rattle.b1_model.specs.MachineStep.{peer_records, record_of_state}
+use Rattle.b1_step.specs.Rights.{Has}
+use Rattle.b1_step.proofs.Lists.{has_at}
+use Rattle.b1_inv.specs.Receipts.{NamesNode, NoticesNamed}
+use Rattle.b1_inv_receipts.proofs.Turns.{fixed_names}
+use Rattle.b1_law.proofs.Reached.{reached_sound}
+use Rattle.b1_schedule.specs.Shortage.{Shortage, no_shortage, shortage_of}
+use Rattle.b1_schedule.specs.Schedule.{Finished, Stalled, Playing, moves, start_of, IsPlay, IsStall}
+use Rattle.b1_play_commands.specs.Following.{Follows}
+use Rattle.b1_play_commands.specs.Spelled.{IsNotLimit, NoLimits, IsNamed, EndsReset, IsSpelled, AllSpelled}
+use Rattle.b1_play_commands.proofs.Calls.{driver_follows}
+use Rattle.b1_play_commands.proofs.Plays.{Plays, plays}
+
+-- ---- lists
+
+all_get : {X : Type 0} (P : X → Type 0) (xs : List X) → ((k : ℕ) (x : X) → slice_get xs k ≡ Some x → P x) → All P xs
+all_get P [] each = All-nil P
+all_get P (x ∷ xs) each = All-cons P x xs (each 0 x refl) (all_get P xs (λ k y is. each (suc k) y is))
+
+get_all : {X : Type 0} (P : X → Type 0) (xs : List X) (k : ℕ) (x : X) → AllByRecursion P xs → slice_get xs k ≡ Some x → P x
+get_all P [] k x all is = absurd (cc is)
+get_all P (y ∷ ys) zero x all is = let same : y ≡ x = cc is in subst P same all.0
+get_all P (y ∷ ys) (suc k) x all is = get_all P ys k x all.1 is
+
+-- ---- one call
+
+-- the command of a place is none that sets limits alone
+abbrev NextIs : Option Command → Type 0
+NextIs None = ⊤
+NextIs (Some command) = IsNotLimit command
+
+-- what is recorded for it has a name, and an answer of its kind
+abbrev IsOfKind : Call → Type 0
+IsOfKind call = IsNamed call.command × (fits call.command call.answer ≡ true)
+
+named_by : (calls : List Call) (call : Call) (command : Command) → IsNamed (resolved command calls) → (call.command ≡ resolved command calls) → (fits call.command call.answer ≡ true) → IsOfKind call
+named_by calls call command named same is = (subst IsNamed (sym same) named, is)
+
+recv_kind : (call : Call) → call.command ≡ cmd.Recv → fits cmd.Recv call.answer ≡ true → IsOfKind call
+recv_kind call same is = (subst IsNamed (sym same) tt, ap (λ c. fits c call.answer) same ∙ is)
+
+ends_fits : (got : Answer) → ends_await got ≡ true → fits cmd.Recv got ≡ true
+ends_fits (answer.Got receipt) is = refl
+ends_fits (answer.Refused refused) is = refl
+ends_fits got is = absurd (cc is)
+
+receipt_fits : (got : Answer) → is_receipt got ≡ true → fits cmd.Recv got ≡ true
+receipt_fits (answer.Got receipt) is = refl
+receipt_fits got is = absurd (cc is)
+
+of_kind : (calls : List Call) (next : Option Command) (call : Call) → NextIs next → IsInPlace calls next (Some call) → IsOfKind call
+of_kind calls None call none placed = recv_kind call placed.0 (receipt_fits call.answer placed.1)
+of_kind calls (Some cmd.Await) call none placed = recv_kind call placed.0 (ends_fits call.answer placed.1)
+of_kind calls (Some (cmd.Limit limits)) call none placed = absurd none
+of_kind calls (Some cmd.Disconnect) call none placed = named_by calls call cmd.Disconnect tt placed.0 placed.1
+of_kind calls (Some cmd.Query) call none placed = named_by calls call cmd.Query tt placed.0 placed.1
+of_kind calls (Some (cmd.Reset limits)) call none placed = named_by calls call (cmd.Reset limits) tt placed.0 placed.1
+of_kind calls (Some (cmd.Release number)) call none placed = named_by calls call (cmd.Release number) tt placed.0 placed.1
+of_kind calls (Some (cmd.Destroy numbers)) call none placed = named_by calls call (cmd.Destroy numbers) tt placed.0 placed.1
+of_kind calls (Some (cmd.SliceRelease offset)) call none placed = named_by calls call (cmd.SliceRelease offset) tt placed.0 placed.1
+of_kind calls (Some (cmd.Send c)) call none placed = named_by calls call (cmd.Send c) tt placed.0 placed.1
+of_kind calls (Some cmd.Recv) call none placed = named_by calls call cmd.Recv tt placed.0 placed.1
+
+-- the answer of a flush fits no other command
+reset_ends : (command : Command) (got : Answer) → fits command got ≡ true → EndsReset command got
+reset_ends (cmd.Reset limits) (answer.Reset stamp) is = tt
+reset_ends cmd.Disconnect (answer.Reset stamp) is = tt
+reset_ends command (answer.Reset stamp) is = absurd (cc is)
+reset_ends command (answer.Sent sent) is = tt
+reset_ends command (answer.Got receipt) is = tt
+reset_ends command answer.Done is = tt
+reset_ends command (answer.Destroyed stamp) is = tt
+reset_ends command (answer.Info user pool limits) is = tt
+reset_ends command (answer.Refused refused) is = tt
+
+-- ---- a driver
+
+call_has : (command : Command) (got : Answer) (call : Call) → Has (call_of command got) call → NamesNode got → NamesNode call.answer
+call_has command got call h names = at (is_waiting command got) h
+  where
+    at : (b : Bool) → Has (cond b [] (record { command = as_call command; answer = got } ∷ [])) call → NamesNode call.answer
+    at true h = absurd h
+    at false (inl same) = subst (λ c. NamesNode c.answer) (sym same) names
+    at false (inr h) = absurd h
+
+has_left : {X : Type 0} (xs ys : List X) (x : X) → Has (xs ++ ys) x → Has xs x ⊎ Has ys x
+has_left [] ys x h = inr h
+has_left (y ∷ xs) ys x (inl same) = inl (inl same)
+has_left (y ∷ xs) ys x (inr h) = elim (has_left xs ys x h) [ inl old ↦ inl (inr old) | inr new ↦ inr new ]
+
+module _ (d : DriverPart) (named : NoticesNamed d) where
+  open_names : (doing : Option Doing) → d.doing ≡ doing → (call : Call) → Has (open_by doing) call → NamesNode call.answer
+  open_names None is call h = absurd h
+  open_names (Some doing) is call h = at (answer_of doing.command doing.phase) refl h
+    where
+      at : (got : Option Answer) → answer_of doing.command doing.phase ≡ got → Has (fixed_call doing.command got) call → NamesNode call.answer
+      at None same h = absurd h
+      at (Some got) same h = call_has doing.command got call h (fixed_names doing.command doing.phase got (named.reaping doing is) same)
+
+  calls_name : (call : Call) → Has (driver_calls d) call → NamesNode call.answer
+  calls_name call h = elim (has_left d.calls (open_by d.doing) call h) [ inl old ↦ named.calls call old | inr new ↦ open_names d.doing refl call new ]
+
+  -- the calls that stand in a record for the driver
+  calls_spelled : (commands : List Command) → AllByRecursion IsNotLimit commands → Follows commands d → All IsSpelled (driver_calls d)
+  calls_spelled commands none follows =
+      all_get IsSpelled (driver_calls d)
+      (λ k call is.
+      let kind = of_kind (take k (driver_calls d)) (slice_get commands k) call (next_is (slice_get commands k) (λ c there. get_all IsNotLimit commands k c none there)) (driver_follows commands d follows k call is) in
+      record { command = kind.0; reset = reset_ends call.command call.answer kind.1; node = calls_name call (has_at (driver_calls d) k call is) })
+    where
+      next_is : (next : Option Command) → ((c : Command) → next ≡ Some c → IsNotLimit c) → NextIs next
+      next_is None each = tt
+      next_is (Some c) each = each c refl
+
+-- ---- a state
+
+records_spelled : (xs : List PeerPart) (ds : List DriverPart) → ((p : ℕ) (d : DriverPart) → slice_get ds p ≡ Some d → All IsSpelled (driver_calls d)) → All (λ (x : PeerCalls). All IsSpelled x.calls) (peer_records xs ds)
+records_spelled [] ds each = All-nil (λ (x : PeerCalls). All IsSpelled x.calls)
+records_spelled (x ∷ xs) [] each = All-nil (λ (y : PeerCalls). All IsSpelled y.calls)
+records_spelled (x ∷ xs) (d ∷ ds) each = All-cons (λ (y : PeerCalls). All IsSpelled y.calls) _ (peer_records xs ds) (each 0 d refl) (records_spelled xs ds (λ p e is. each (suc p) e is))
+
+commands_none : (lists : List (List Command)) (p : ℕ) → NoLimits lists → AllByRecursion IsNotLimit (commands_of lists p)
+commands_none [] p none = tt
+commands_none (commands ∷ rest) zero none = none.0
+commands_none (commands ∷ rest) (suc p) none = commands_none rest p none.1
+
+module _ (o : Opening) (lists : List (List Command)) (turns : List ℕ) (valid : IsOpening o) (none : NoLimits lists) where
+  came_to : (m : Shortage) (count : ℕ) (end : Playing) → moves o lists m count (start_of o turns) ≡ end → AllSpelled (record_of_state end.state)
+  came_to m count end is =
+      let k = subst (Plays o lists) is (plays o lists m (λ s reached. reached_sound o s valid reached) turns count) in
+      let sound = reached_sound o end.state valid k.follow.reached in
+      records_spelled end.state.peers end.state.drivers
+      (λ p d is_driver. calls_spelled d (sound.receipts.named p d is_driver) (commands_of lists p) (commands_none lists p none) (k.follow.all p d is_driver))
+
+  pub played_spelled : (r : Record) → IsPlay o lists turns r → AllSpelled r
+  played_spelled r play = subst AllSpelled (sym play.record_is) (came_to (shortage_of r) play.comes.count (record { state = play.state; stage = Finished }) play.comes.is_at)
+
+  pub stalled_spelled : (waiting : List ℕ) (r : Record) → IsStall o lists turns waiting r → AllSpelled r
+  stalled_spelled waiting r stall = subst AllSpelled (sym stall.record_is) (came_to no_shortage stall.comes.count (record { state = stall.state; stage = Stalled }) stall.comes.is_at)

@@ -1,0 +1,8 @@
+use Rattle.b1_play_report.proofs.Spelled.{played_spelled, stalled_spelled}
+use Rattle.b1_play_report.proofs.laws.what_is_played_is_spelled.Goals as goal
+
+pub returns-clause-played : goal.returns-clause-played
+returns-clause-played c = λ o lists turns r valid none play. played_spelled o lists turns valid none r play
+
+pub returns-clause-stalled : goal.returns-clause-stalled
+returns-clause-stalled c = λ o lists turns waiting r valid none stall. stalled_spelled o lists turns valid none waiting r stall
