@@ -6,7 +6,8 @@ use Rattle.b1_model.specs.declared.records.Record.{Record}
 use Rattle.b1_model.specs.Legal.{Legal, Whole}
 use Rattle.b1_schedule.specs.Schedule.{IsPlay}
 use Rattle.b1_script.specs.declared.script.Script.{Script}
-use Rattle.b1_serial.specs.Serial.{serial, memory, IsPlayable}
+use Rattle.b1_schedule.specs.Shortage.{shortage_of}
+use Rattle.b1_serial.specs.Serial.{serial, IsPlayable}
 use Rattle.b1_small.specs.Quotas.{IsLight, IsWithinQuotas, MeetsNoQuota}
 use Rattle.b1_shell.specs.Plays.{IsSmall, IsSerial}
 
@@ -15,7 +16,7 @@ abbrev Says : (Opening → List (List Command) → Record → Type 0) → (Openi
 Says Q P = (o : Opening) (lists : List (List Command)) (r : Record) → IsPlayable o lists → Q o lists r → IsPlay o lists [] r → P o lists r
 
 abbrev IsSerially : Opening → List (List Command) → Record → Type 0
-IsSerially o lists r = r ≡ serial o lists (memory r)
+IsSerially o lists r = r ≡ serial o lists (shortage_of r)
 
 module _ (within : Says (λ o lists r. IsWithinQuotas r) IsSerially) (light : Says (λ o lists r. IsLight o lists) IsSerially)
     (legal : Says MeetsNoQuota (λ o lists r. Legal o r)) (whole : Says MeetsNoQuota (λ o lists r. Whole o r)) where

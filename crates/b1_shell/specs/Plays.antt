@@ -9,7 +9,8 @@ use Rattle.b1_model.specs.Script as follows
 use Rattle.b1_report.specs.Report.{report_text}
 use Rattle.b1_schedule.specs.Schedule.{IsPlay, IsStall}
 use Rattle.b1_script.specs.declared.script.Script.{Script}
-use Rattle.b1_serial.specs.Serial.{serial, memory, IsPlayable}
+use Rattle.b1_schedule.specs.Shortage.{shortage_of}
+use Rattle.b1_serial.specs.Serial.{serial, IsPlayable}
 use Rattle.b1_small.specs.Quotas.{MeetsNoQuota}
 use Rattle.b1_shell.specs.Texts.{stalled_line}
 
@@ -20,7 +21,7 @@ pub record IsSmall (s : Script) : Type 0 where
 
 -- the record is the plain serial bus's, with memory wanting where the record shows it; it is legal and whole
 pub record IsSerial (s : Script) (outcome : Record) : Type 0 where
-  pub serial_is : outcome ≡ serial s.opening s.commands (memory outcome)
+  pub serial_is : outcome ≡ serial s.opening s.commands (shortage_of outcome)
   pub legal : Legal s.opening outcome
   pub whole : Whole s.opening outcome
 
