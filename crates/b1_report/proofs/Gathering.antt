@@ -33,6 +33,7 @@ written : (c : Command) → IsCommand Report c → IsWritten c
 written cmd.Disconnect h = tt
 written cmd.Query h = tt
 written (cmd.Reset limits) h = tt
+written (cmd.Limit limits) h = absurd h
 written (cmd.Release number) h = tt
 written (cmd.Destroy numbers) h = tt
 written (cmd.SliceRelease offset) h = tt

@@ -2,3 +2,4 @@ pub mod Texts
 pub mod LineRuns
 pub mod Gathering
 pub mod Faults
+pub mod Places

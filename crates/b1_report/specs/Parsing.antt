@@ -22,11 +22,15 @@ pub record HasPeerFields (x : PeerCalls) : Type 0 where
   pub clock : x.clock < 2 ^ 64
   pub calls : AllByRecursion HasCallFields x.calls
 
+-- the numbers of a record fit the fields that hold them
+abbrev pub HasRecordFields : Record → Type 0
+HasRecordFields rec = AllByRecursion HasPeerFields rec.peers
+
 -- the bytes are the report of a record of so many peers, in which each call has a spelling
 pub record IsReport (peers : ℕ) (bytes : List ℕ) (rec : Record) : Type 0 where
   pub count : length rec.peers ≡ peers
   pub spelled : EachSpelled rec.peers
-  pub fields : AllByRecursion HasPeerFields rec.peers
+  pub fields : HasRecordFields rec
   pub same : bytes ≡ report_text rec
 
 -- with some bytes behind them, or with none, they are a report of so many peers

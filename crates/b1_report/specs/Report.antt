@@ -3,11 +3,11 @@ use Rattle.std.specs.Prelude.{ℕ, List, ◌++◌, length, codes, All}
 use Rattle.std.specs.Fmt.{decimal}
 use Rattle.std.specs.List.{flat_map, enumerate_from}
 use Rattle.b1_model.specs.declared.commands.Command.{Command}
-use Rattle.b1_model.specs.declared.commands.Command.TheVariants as cmd
 use Rattle.b1_model.specs.declared.records.Call.{Call}
 use Rattle.b1_model.specs.declared.records.PeerCalls.{PeerCalls}
 use Rattle.b1_model.specs.declared.records.Record.{Record}
-use Rattle.b1_text_words.specs.Commands.{command_text}
+use Rattle.b1_text_words.specs.declared.items.Form.TheVariants as forms
+use Rattle.b1_text_words.specs.Commands.{command_text, HasWords}
 pub use Rattle.b1_report_lines.specs.Answers.{answer_text, IsAnswer}
 
 -- the line of a call
@@ -34,10 +34,9 @@ peers_text xs = flat_map peer_text (enumerate_from 0 xs)
 abbrev pub report_text : Record → List ℕ
 report_text r = (codes "bus1 report 1\npeers " ++ decimal (length r.peers) ++ codes "\n") ++ peers_text r.peers ++ codes "end\n"
 
--- a command of a record: an AWAIT that ended stands there as a RECV
+-- a command that a report has words for: an AWAIT that ended stands there as a RECV, and no PEER_RESET is without flush yet
 abbrev pub IsWritten : Command → Type 0
-IsWritten cmd.Await = ⊥
-IsWritten command = Unit {0}
+IsWritten command = HasWords forms.Report command
 
 -- a call that has a line of its own
 abbrev pub HasSpelling : Call → Type 0

@@ -1,9 +1,10 @@
 ghost use Rattle.std.specs.Prelude.{◌≡◌, ◌++◌, OnOk, string_bytes};
+ghost use Rattle.b1_text_words.specs.Numbers.{key_text};
 ghost use Rattle.b1_report_lines.specs.Answers.{answer_text, receipt_text, places_text, place_text, quantity_text, front_text, gone_text};
 ghost use Rattle.b1_report_lines.specs.Answers.{reason_text, refused_text, reset_text};
 
-use crate::numbers::{write_hex, write_key, write_number, write_numbers};
-use b1_model::{Answer, Command, Front, Places, Quantity, Reason, Receipt, Refused};
+use b1_model::{Answer, Command, Front, Key, Places, Quantity, Reason, Receipt, Refused};
+use b1_text_words::{Item, write_bytes, write_item, write_list};
 use std::alloc::AllocError;
 use std::fmt::Write;
 
@@ -60,11 +61,11 @@ fn write_receipt(out: &mut String, receipt: &Receipt) -> Result<(), AllocError>
             out.push_str("data ")?;
             write_key(out, key)?;
             out.push_str(" node ")?;
-            write_number(out, *number)?;
+            write_item(out, Item::Known, *number)?;
             write!(out, " slice {offset} handles ")?;
-            write_numbers(out, handles)?;
+            write_list(out, Item::Known, handles.as_slice())?;
             out.push_str(" bytes ")?;
-            write_hex(out, payload.as_slice())
+            write_bytes(out, payload.as_slice())
         }
         Receipt::Destroyed { key, number } => {
             out.push_str("destroyed ")?;
@@ -74,13 +75,20 @@ fn write_receipt(out: &mut String, receipt: &Receipt) -> Result<(), AllocError>
             } else {
                 " handle "
             })?;
-            write_number(out, *number)
+            write_item(out, Item::Known, *number)
         }
         Receipt::Released { stamp, number } => {
             write!(out, "released {stamp} node ")?;
-            write_number(out, *number)
+            write_item(out, Item::Known, *number)
         }
     }
+}
+
+/// A key: stamp, origin and index.
+fn write_key(out: &mut String, key: &Key) -> Result<(), AllocError>
+    ensures { OnOk result (string_bytes out.new ≡ string_bytes out.old ++ key_text key.now) }
+{
+    write!(out, "{}.{}.{}", key.stamp, key.origin, key.index)
 }
 
 fn write_places(out: &mut String, places: &Places) -> Result<(), AllocError>
@@ -123,7 +131,7 @@ fn write_reason(out: &mut String, reason: Reason) -> Result<(), AllocError>
     match reason {
         Reason::Unknown { number } => {
             out.push_str("ENXIO:")?;
-            write_number(out, number)
+            write_item(out, Item::Known, number)
         }
         Reason::Again(front) => write_front(out, front),
         Reason::Memory => out.push_str("ENOMEM"),

@@ -1,8 +1,8 @@
 ghost use Rattle.std.specs.Prelude.{◌≡◌, List, [], ◌∷◌, ◌++◌, Some, OnOk, IfOk};
 ghost use Rattle.b1_report_lines.specs.declared.lines.Line.{Line};
 
-use b1_report_lines::Line;
 use b1_model::{Call, Calls, PeerCalls, PeerLists};
+use b1_report_lines::Line;
 use std::alloc::{AllocError, Global};
 use std::mem;
 

@@ -5,9 +5,9 @@ ghost use Rattle.b1_report.specs.Parsing.{IsReport, TellsReport, WasRead, TellsF
 ghost use Rattle.b1_report.specs.Runs.{AreAllLines, TellsUnfinished, CanFollow, cut_short, line_fault, gathered};
 
 use crate::drafts::Draft;
-use b1_report_lines::{Line, Place, Stop, Unread, read_line};
 use b1_errs::{Cause, NotRead};
 use b1_model::{PeerLists, Record};
+use b1_report_lines::{Line, Place, Stop, Unread, read_line};
 use b1_text_words::split;
 use std::alloc::{AllocError, Global};
 

@@ -233,6 +233,7 @@ plain_finds command = finds_words (λ b. Err Broken) (word_of command) (IsKindOf
 finds : (command : Command) → FindsSome (answer_kind_at command) (word_of command) (IsKindOf command)
 finds cmd.Disconnect = finds_word plain_kind_at (word_of cmd.Disconnect) (IsKindOf cmd.Disconnect) kinds.Reset tt (plain_finds cmd.Disconnect)
 finds (cmd.Reset limits) = finds_word plain_kind_at (word_of (cmd.Reset limits)) (IsKindOf (cmd.Reset limits)) kinds.Reset tt (plain_finds (cmd.Reset limits))
+finds (cmd.Limit limits) = plain_finds (cmd.Limit limits)
 finds cmd.Query = plain_finds cmd.Query
 finds (cmd.Release number) = plain_finds (cmd.Release number)
 finds (cmd.Destroy numbers) = plain_finds (cmd.Destroy numbers)
@@ -245,6 +246,7 @@ passes : (command : Command) (b : List ℕ) (x : AnswerKind × List ℕ) → pla
 passes cmd.Disconnect b x e = ap (λ r. or_word r kinds.Reset (codes "left ") b) e
 passes (cmd.Reset limits) b x e = ap (λ r. or_word r kinds.Reset (codes "reset ") b) e
 passes cmd.Query b x e = e
+passes (cmd.Limit limits) b x e = e
 passes (cmd.Release number) b x e = e
 passes (cmd.Destroy numbers) b x e = e
 passes (cmd.SliceRelease offset) b x e = e
@@ -256,6 +258,7 @@ reset_again : (command : Command) (r : List ℕ) → IsReset command → answer_
 reset_again cmd.Disconnect r h = refl
 reset_again (cmd.Reset limits) r h = refl
 reset_again cmd.Query r h = absurd h
+reset_again (cmd.Limit limits) r h = absurd h
 reset_again (cmd.Release number) r h = absurd h
 reset_again (cmd.Destroy numbers) r h = absurd h
 reset_again (cmd.SliceRelease offset) r h = absurd h
@@ -282,6 +285,7 @@ reset_same cmd.Disconnect (Some n) h = refl
 reset_same (cmd.Reset limits) None h = refl
 reset_same (cmd.Reset limits) (Some n) h = refl
 reset_same cmd.Query v h = absurd h
+reset_same (cmd.Limit limits) v h = absurd h
 reset_same (cmd.Release number) v h = absurd h
 reset_same (cmd.Destroy numbers) v h = absurd h
 reset_same (cmd.SliceRelease offset) v h = absurd h

@@ -180,6 +180,7 @@ unfolding peer_at
 peer_apart begun cmd.Disconnect rest = refl
 peer_apart begun cmd.Query rest = refl
 peer_apart begun (cmd.Reset limits) rest = refl
+peer_apart begun (cmd.Limit limits) rest = refl
 peer_apart begun (cmd.Release number) rest = refl
 peer_apart begun (cmd.Destroy numbers) rest = refl
 peer_apart begun (cmd.SliceRelease offset) rest = refl
@@ -194,6 +195,7 @@ end_apart : (c : Command) (rest : List ℕ) → fixed_at (codes "end") line.End 
 end_apart cmd.Disconnect rest = refl
 end_apart cmd.Query rest = refl
 end_apart (cmd.Reset limits) rest = refl
+end_apart (cmd.Limit limits) rest = refl
 end_apart (cmd.Release number) rest = refl
 end_apart (cmd.Destroy numbers) rest = refl
 end_apart (cmd.SliceRelease offset) rest = refl

@@ -109,6 +109,7 @@ module _ (mark : ℕ) (words : WordsAreFree mark) where
   command_free cmd.Disconnect h = words.disconnect
   command_free cmd.Query h = words.query
   command_free (cmd.Reset limits) h = three limits.entries limits.bytes limits.handles h.entries h.bytes h.handles
+  command_free (cmd.Limit limits) h = absurd h
   command_free (cmd.Release n) h = also (codes "release ") (handle_text n) words.release (handle n h)
   command_free (cmd.Destroy numbers) h = also (codes "destroy ") (list_text handle_text numbers) words.destroy (handles numbers h.items)
   command_free (cmd.SliceRelease n) h = also (codes "slice ") (offset_text n) words.slice (offset n h)

@@ -120,6 +120,7 @@ reset_in_line : (command : Command) → InLine (word_of command kinds.Reset)
 reset_in_line cmd.Disconnect = refl
 reset_in_line cmd.Query = refl
 reset_in_line (cmd.Reset limits) = refl
+reset_in_line (cmd.Limit limits) = refl
 reset_in_line (cmd.Release number) = refl
 reset_in_line (cmd.Destroy numbers) = refl
 reset_in_line (cmd.SliceRelease number) = refl

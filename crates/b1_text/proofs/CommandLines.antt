@@ -1,10 +1,10 @@
 -- The bytes that begin the line of a command for whose record there is room.
 use Rattle.std.proofs.Common.{◌≡◌, ◌↔◌, ℕ, ◌-◌, ◌<◌, ◌≤◌, Bool, true, false, List, ◌++◌, length, codes, IsTrue, refl, sym, ap, subst, ◌∙◌, arith}
 use Rattle.b1_model.specs.declared.commands.Command.{Command}
-use Rattle.b1_model.specs.declared.commands.Command.TheVariants.{Disconnect, Query, Reset, Release, Destroy, SliceRelease, Send, Recv, Await}
+use Rattle.b1_model.specs.declared.commands.Command.TheVariants.{Disconnect, Query, Reset, Limit, Release, Destroy, SliceRelease, Send, Recv, Await}
 use Rattle.b1_model.specs.declared.commands.SendCmd.{SendCmd}
 use Rattle.b1_model.specs.declared.naming.Limits.{Limits}
-use Rattle.b1_records.specs.Spelling.{Is64, AreLimits}
+use Rattle.b1_records.specs.Spelling.{Is64, AreLimits, IsWithin}
 use Rattle.b1_text_words.specs.declared.items.Form.TheVariants.{Script as in_script}
 use Rattle.b1_text_words.specs.declared.items.Item.TheVariants.{Handle}
 use Rattle.b1_text_words.specs.Commands.{command_text_in, limits_text}
@@ -40,16 +40,17 @@ pub not_true : {P : Type 0} → IsTrue false ↔ P → P → ⊥
 not_true h p = let t = h.1 p in cc
 
 -- a record has 8 bytes at least
-least_record : (c : Command) → 8 ≤ record_len c
-least_record Disconnect = omega arith
-least_record Query = omega arith
-least_record (Reset limits) = omega arith
-least_record (Release n) = omega arith
-least_record (Destroy ns) = omega (arith, destroy_len ns)
-least_record (SliceRelease n) = omega arith
-least_record (Send s) = omega (arith, send_len s)
-least_record Recv = omega arith
-least_record Await = omega arith
+least_record : (c : Command) → IsWithin c → 8 ≤ record_len c
+least_record Disconnect within = omega arith
+least_record Query within = omega arith
+least_record (Reset limits) within = omega arith
+least_record (Limit limits) within = absurd within
+least_record (Release n) within = omega arith
+least_record (Destroy ns) within = omega (arith, destroy_len ns)
+least_record (SliceRelease n) within = omega arith
+least_record (Send s) within = omega (arith, send_len s)
+least_record Recv within = omega arith
+least_record Await within = omega arith
 
 pub too_small : (kind : Command → Bool) (room : ℕ) (line : List ℕ) → ((c : Command) → HasRoomAs kind room c → ⊥) → IsTrue false ↔ CommandBegins kind room line
 too_small kind room line f = never (command_text_in in_script) (HasRoomAs kind room) line (λ b. f b.whole.value b.whole.is_of)
@@ -82,6 +83,7 @@ plain_word room line rest Query before h same = absurd (before.query (record { r
 plain_word room line rest Recv before h same = absurd (before.recv (record { rest = rest; whole = same }))
 plain_word room line rest Await before h same = record { rest = rest; whole = same }
 plain_word room line rest (Reset limits) before h same = let bad = h.is in absurd cc
+plain_word room line rest (Limit limits) before h same = absurd h.has_room.carried.within
 plain_word room line rest (Release n) before h same = let bad = h.is in absurd cc
 plain_word room line rest (Destroy ns) before h same = let bad = h.is in absurd cc
 plain_word room line rest (SliceRelease n) before h same = let bad = h.is in absurd cc
@@ -91,7 +93,7 @@ pub plain_last : (room : ℕ) (line : List ℕ) → (WordBegins (codes "disconne
 plain_last room line d q r b = plain_word room line b.rest b.whole.value (record { disconnect = d; query = q; recv = r }) b.whole.is_of b.whole.same
 
 pub no_plain : (room : ℕ) (c : Command) → room < 8 → HasRoomAs is_plain room c → ⊥
-no_plain room c small h = omega (arith, least_record c, h.has_room.fits, small)
+no_plain room c small h = omega (arith, least_record c h.has_room.carried.within, h.has_room.fits, small)
 
 -- ---- commands of handles or a slice alone
 
@@ -130,6 +132,7 @@ reference_of room most line rest (Destroy ns) fit r s h same =
 reference_of room most line rest Disconnect fit r s h same = let bad = h.is in absurd cc
 reference_of room most line rest Query fit r s h same = let bad = h.is in absurd cc
 reference_of room most line rest (Reset limits) fit r s h same = let bad = h.is in absurd cc
+reference_of room most line rest (Limit limits) fit r s h same = absurd h.has_room.carried.within
 reference_of room most line rest (Send send) fit r s h same = let bad = h.is in absurd cc
 reference_of room most line rest Recv fit r s h same = let bad = h.is in absurd cc
 reference_of room most line rest Await fit r s h same = let bad = h.is in absurd cc
@@ -144,6 +147,7 @@ no_reference room (Destroy ns) small h = omega (arith, h.has_room.fits, destroy_
 no_reference room Disconnect small h = let bad = h.is in cc
 no_reference room Query small h = let bad = h.is in cc
 no_reference room (Reset limits) small h = let bad = h.is in cc
+no_reference room (Limit limits) small h = h.has_room.carried.within
 no_reference room (Send send) small h = let bad = h.is in cc
 no_reference room Recv small h = let bad = h.is in cc
 no_reference room Await small h = let bad = h.is in cc
@@ -162,6 +166,7 @@ reset_of : (room : ℕ) (c : Command) → HasRoomAs is_reset room c → (l : Lim
 reset_of room (Reset limits) h = (limits, h.has_room.carried.numbers, refl)
 reset_of room Disconnect h = let bad = h.is in absurd cc
 reset_of room Query h = let bad = h.is in absurd cc
+reset_of room (Limit limits) h = absurd h.has_room.carried.within
 reset_of room (Release n) h = let bad = h.is in absurd cc
 reset_of room (Destroy ns) h = let bad = h.is in absurd cc
 reset_of room (SliceRelease n) h = let bad = h.is in absurd cc
@@ -176,6 +181,7 @@ pub no_reset : (room : ℕ) (c : Command) → room < 24 → HasRoomAs is_reset r
 no_reset room (Reset limits) small h = let fits : 24 ≤ room = h.has_room.fits in omega (arith, fits, small)
 no_reset room Disconnect small h = let bad = h.is in cc
 no_reset room Query small h = let bad = h.is in cc
+no_reset room (Limit limits) small h = h.has_room.carried.within
 no_reset room (Release n) small h = let bad = h.is in cc
 no_reset room (Destroy ns) small h = let bad = h.is in cc
 no_reset room (SliceRelease n) small h = let bad = h.is in cc
@@ -236,6 +242,7 @@ send_of room line rest (Send s) none h same = flag_of s.go_on room line rest s r
 send_of room line rest Disconnect none h same = let bad = h.is in absurd cc
 send_of room line rest Query none h same = let bad = h.is in absurd cc
 send_of room line rest (Reset limits) none h same = let bad = h.is in absurd cc
+send_of room line rest (Limit limits) none h same = absurd h.has_room.carried.within
 send_of room line rest (Release n) none h same = let bad = h.is in absurd cc
 send_of room line rest (Destroy ns) none h same = let bad = h.is in absurd cc
 send_of room line rest (SliceRelease n) none h same = let bad = h.is in absurd cc
@@ -250,6 +257,7 @@ no_send room (Send s) small h = omega (arith, h.has_room.fits, send_len s, small
 no_send room Disconnect small h = let bad = h.is in cc
 no_send room Query small h = let bad = h.is in cc
 no_send room (Reset limits) small h = let bad = h.is in cc
+no_send room (Limit limits) small h = h.has_room.carried.within
 no_send room (Release n) small h = let bad = h.is in cc
 no_send room (Destroy ns) small h = let bad = h.is in cc
 no_send room (SliceRelease n) small h = let bad = h.is in cc
@@ -270,6 +278,7 @@ any_of room line rest Disconnect p r t h same = absurd (p (record { rest = rest;
 any_of room line rest Query p r t h same = absurd (p (record { rest = rest; whole = record { value = Query; is_of = record { is = refl; has_room = h }; same = same } }))
 any_of room line rest Recv p r t h same = absurd (p (record { rest = rest; whole = record { value = Recv; is_of = record { is = refl; has_room = h }; same = same } }))
 any_of room line rest Await p r t h same = absurd (p (record { rest = rest; whole = record { value = Await; is_of = record { is = refl; has_room = h }; same = same } }))
+any_of room line rest (Limit limits) p r t h same = absurd h.carried.within
 any_of room line rest (Release n) p r t h same = absurd (r (record { rest = rest; whole = record { value = Release n; is_of = record { is = refl; has_room = h }; same = same } }))
 any_of room line rest (SliceRelease n) p r t h same = absurd (r (record { rest = rest; whole = record { value = SliceRelease n; is_of = record { is = refl; has_room = h }; same = same } }))
 any_of room line rest (Destroy ns) p r t h same = absurd (r (record { rest = rest; whole = record { value = Destroy ns; is_of = record { is = refl; has_room = h }; same = same } }))

@@ -2,6 +2,7 @@
 use Rattle.std.proofs.Common.{◌≡◌, ◌≢◌, ℕ, ◌+◌, ◌-◌, ◌<◌, ◌≤◌, List, [], ◌∷◌, ◌++◌, length, take, drop, Option, Some, None, IsSome, Ok, refl, sym, ap, subst, ◌∙◌, append_assoc, arith}
 use Rattle.std.specs.List.{flat_map}
 use Rattle.std.proofs.lemmas.List.{length-append, length-take, length-drop, take-append-drop, take_all, take_at, drop_at}
+use Rattle.b1_model.specs.declared.limits.TheConstants.{MOST_TEXT}
 use Rattle.b1_errs.specs.declared.NotRead.TheVariants.{Bad}
 use Rattle.b1_errs.specs.declared.Cause.TheVariants.{Line}
 use Rattle.b1_script.specs.declared.script.Script.{Script}
@@ -9,7 +10,7 @@ use Rattle.b1_text.specs.declared.draft.Draft.{Draft}
 use Rattle.b1_text.specs.declared.draft.Draft.TheVariants.{Whole}
 use Rattle.b1_text.specs.declared.statement.Statement.{Statement}
 use Rattle.b1_text.specs.Texts.{statement_text, line_text}
-use Rattle.b1_text.specs.Accepted.{most_text, IsAccepted, CanGoOn, IsLine, AreLines, IsFault, line, last_line, cut}
+use Rattle.b1_text.specs.Accepted.{IsAccepted, CanGoOn, IsLine, AreLines, IsFault, line, last_line, cut}
 use Rattle.b1_text.specs.Drafts.{Fits, step, IsNext}
 use Rattle.b1_text_words.specs.Words.{Reads, Begins}
 use Rattle.b1_text.specs.Progress.{Makes, Leads, LeadsTo, IsFirstLine, Answers}
@@ -61,11 +62,11 @@ made_line bytes word at end d e within first m l =
 
 -- ---- faults
 
-pub cut_fault : (bytes : List ℕ) (d : Draft) (at : ℕ) → Makes bytes d → ((s : Script) → d ≡ Whole s → ⊥) → at ≡ length bytes → length bytes ≤ most_text → IsFault bytes (Bad at Line)
+pub cut_fault : (bytes : List ℕ) (d : Draft) (at : ℕ) → Makes bytes d → ((s : Script) → d ≡ Whole s → ⊥) → at ≡ length bytes → length bytes ≤ MOST_TEXT → IsFault bytes (Bad at Line)
 cut_fault bytes d at m not_whole end short =
     (cut (record { good = good bytes d m; short = λ a. not_whole a.0 (whole_of bytes d a.0 m a.1) }) end, short)
 
-pub wrong_fault : (bytes word : List ℕ) (at end : ℕ) (d : Draft) → at ≤ length bytes → IsFirstLine bytes at word end → Makes (take at bytes) d → ¬ IsNext d word → length bytes ≤ most_text → IsFault bytes (Bad at Line)
+pub wrong_fault : (bytes word : List ℕ) (at end : ℕ) (d : Draft) → at ≤ length bytes → IsFirstLine bytes at word end → Makes (take at bytes) d → ¬ IsNext d word → length bytes ≤ MOST_TEXT → IsFault bytes (Bad at Line)
 wrong_fault bytes word at end d within first m none short =
     let split : bytes ≡ take at bytes ++ word ++ 10 ∷ drop end bytes
     = sym (take-append-drop at bytes) ∙ ap (λ (x : List ℕ). take at bytes ++ x) first.split ∙ sym (append_assoc (take at bytes) word (10 ∷ drop end bytes)) in (
@@ -94,7 +95,7 @@ unfinished bytes word d m h some a = let g = m.only word a.0 a.1 in not_lines wo
 some_left : (bytes : List ℕ) (at : ℕ) → at < length bytes → drop at bytes ≢ []
 some_left bytes at less e = let n : length (drop at bytes) ≡ 0 = ap (λ (x : List ℕ). length x) e in omega (arith, n, length-drop at bytes)
 
-pub unfinished_fault : (bytes : List ℕ) (at : ℕ) (d : Draft) → at < length bytes → IsLine (drop at bytes) → Makes (take at bytes) d → Begins (IsNext d) (drop at bytes) → length bytes ≤ most_text → IsFault bytes (Bad (length bytes) Line)
+pub unfinished_fault : (bytes : List ℕ) (at : ℕ) (d : Draft) → at < length bytes → IsLine (drop at bytes) → Makes (take at bytes) d → Begins (IsNext d) (drop at bytes) → length bytes ≤ MOST_TEXT → IsFault bytes (Bad (length bytes) Line)
 unfinished_fault bytes at d less unbroken m can short =
     let whole = take-append-drop at bytes in (
       cut (record {
@@ -104,7 +105,7 @@ unfinished_fault bytes at d less unbroken m can short =
       short,
     )
 
-pub wrong_end_fault : (bytes : List ℕ) (at : ℕ) (d : Draft) → at < length bytes → IsLine (drop at bytes) → Makes (take at bytes) d → ¬ Begins (IsNext d) (drop at bytes) → length bytes ≤ most_text → IsFault bytes (Bad at Line)
+pub wrong_end_fault : (bytes : List ℕ) (at : ℕ) (d : Draft) → at < length bytes → IsLine (drop at bytes) → Makes (take at bytes) d → ¬ Begins (IsNext d) (drop at bytes) → length bytes ≤ MOST_TEXT → IsFault bytes (Bad at Line)
 wrong_end_fault bytes at d less unbroken m none short =
     let whole = take-append-drop at bytes in (
       last_line (take at bytes) (drop at bytes) (record {

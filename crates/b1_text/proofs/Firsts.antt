@@ -2,12 +2,13 @@
 use Rattle.std.proofs.Common.{◌≡◌, ◌≢◌, ℕ, ◌+◌, ◌*◌, ◌≤◌, Bool, true, false, ◌||◌, eqb, List, [], ◌∷◌, ◌++◌, drop, Option, Some, None, codes, refl, sym, ap, subst, ◌∙◌, append_assoc, arith, eq-eqb}
 use Rattle.std.specs.Fmt.{decimal}
 use Rattle.std.specs.List.{AllByRecursion}
+use Rattle.b1_model.specs.declared.limits.TheConstants.{MOST_SCRIPT}
 use Rattle.b1_model.specs.declared.commands.Command.{Command}
-use Rattle.b1_model.specs.declared.commands.Command.TheVariants.{Disconnect, Query, Reset, Release, Destroy, SliceRelease, Send, Recv, Await}
+use Rattle.b1_model.specs.declared.commands.Command.TheVariants.{Disconnect, Query, Reset, Limit, Release, Destroy, SliceRelease, Send, Recv, Await}
 use Rattle.b1_model.specs.declared.naming.PeerSpec.{PeerSpec}
 use Rattle.b1_model.specs.declared.naming.Wire.{Wire}
 use Rattle.b1_records.specs.Spelling.{Is32, Is64}
-use Rattle.b1_script.specs.Spelling.{most_script, IsSpec}
+use Rattle.b1_script.specs.Spelling.{IsSpec}
 use Rattle.b1_text_words.specs.declared.items.Form.TheVariants.{Script as in_script}
 use Rattle.b1_text_words.specs.declared.items.Item.TheVariants.{UpTo}
 use Rattle.b1_text_words.specs.Commands.{command_text_in, IsCommand}
@@ -30,7 +31,7 @@ first (b ∷ bs) = b
 
 -- the bytes that commands begin with
 unfoldable pub starts : ℕ → Bool
-starts b = (eqb b 97) || (eqb b 100) || (eqb b 113) || (eqb b 114) || (eqb b 115)
+starts b = (eqb b 97) || (eqb b 100) || (eqb b 108) || (eqb b 113) || (eqb b 114) || (eqb b 115)
 
 send_starts : (go_on : Bool) (x : List ℕ) → starts (first (flag_words go_on ++ x)) ≡ true
 unfolding starts first
@@ -42,6 +43,7 @@ unfolding starts first
 command_starts Disconnect = refl
 command_starts Query = refl
 command_starts (Reset limits) = refl
+command_starts (Limit limits) = refl
 command_starts (Release number) = refl
 command_starts (Destroy numbers) = refl
 command_starts (SliceRelease offset) = refl
@@ -146,7 +148,7 @@ each_down : (ts : List ℕ) → AllByRecursion Is32 ts → AllByRecursion (λ n.
 each_down [] h = tt
 each_down (t ∷ ts) h = (omega (arith, h.0), each_down ts h.1)
 
-pub only_turns : (s : Statement) (body : List ℕ) → Fits s → codes "turns " ++ body ≡ statement_text s → (ts : List ℕ) × (s ≡ says.Turns ts) × AreItems (UpTo 4294967295) most_script ts × (body ≡ list_text decimal ts)
+pub only_turns : (s : Statement) (body : List ℕ) → Fits s → codes "turns " ++ body ≡ statement_text s → (ts : List ℕ) × (s ≡ says.Turns ts) × AreItems (UpTo 4294967295) MOST_SCRIPT ts × (body ≡ list_text decimal ts)
 unfolding starts first two
 only_turns (says.Turns ts) body fits e = (ts, refl, record { items = each_down ts fits.peers; few = fits.few }, ap (λ (x : List ℕ). drop 6 x) e)
 only_turns (says.Command c) body fits e = absurd (no_command (codes "turns " ++ body) c refl e)
@@ -156,7 +158,7 @@ only_turns (says.Peer p) body fits e = absurd (differ e refl)
 only_turns (says.Wire w) body fits e = absurd (differ e refl)
 only_turns (says.Commands n) body fits e = absurd (differ e refl)
 
-pub turns_are : (ts : List ℕ) → AreItems (UpTo 4294967295) most_script ts → AllByRecursion Is32 ts
+pub turns_are : (ts : List ℕ) → AreItems (UpTo 4294967295) MOST_SCRIPT ts → AllByRecursion Is32 ts
 turns_are ts h = each_up ts h.items
 
 abbrev pub clock_kind : Kind (codes "clock ") decimal Is64 (λ n. says.Clock n)
@@ -171,7 +173,7 @@ wire_kind = record { texts = wire_split; fits = λ w h. h; only = only_wire }
 abbrev pub commands_kind : Kind (codes "commands ") decimal Is32 (λ n. says.Commands n)
 commands_kind = record { texts = λ n. refl; fits = λ n h. h; only = only_commands }
 
-abbrev pub turns_kind : Kind (codes "turns ") (list_text (item_text (UpTo 4294967295))) (AreItems (UpTo 4294967295) most_script) (λ ts. says.Turns ts)
+abbrev pub turns_kind : Kind (codes "turns ") (list_text (item_text (UpTo 4294967295))) (AreItems (UpTo 4294967295) MOST_SCRIPT) (λ ts. says.Turns ts)
 turns_kind = record { texts = λ ts. refl; fits = λ ts h. record { peers = each_up ts h.items; few = h.few }; only = only_turns }
 
 -- ---- the name, and commands
@@ -212,6 +214,7 @@ pub carried : (c : Command) → IsCommand in_script c → IsCarried c
 carried Disconnect h = record { within = tt; numbers = tt }
 carried Query h = record { within = tt; numbers = tt }
 carried (Reset limits) h = record { within = tt; numbers = record { entries = h.entries; bytes = h.bytes; handles = h.handles } }
+carried (Limit limits) h = absurd h
 carried (Release number) h = record { within = tt; numbers = h }
 carried (Destroy numbers) h = record { within = h.few; numbers = h.items }
 carried (SliceRelease offset) h = record { within = tt; numbers = h }
@@ -223,6 +226,7 @@ pub is_command : (c : Command) → IsCarried c → IsCommand in_script c
 is_command Disconnect h = tt
 is_command Query h = tt
 is_command (Reset limits) h = record { entries = h.numbers.entries; bytes = h.numbers.bytes; handles = h.numbers.handles }
+is_command (Limit limits) h = absurd h.within
 is_command (Release number) h = h.numbers
 is_command (Destroy numbers) h = record { items = h.numbers; few = h.within }
 is_command (SliceRelease offset) h = h.numbers

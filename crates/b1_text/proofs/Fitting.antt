@@ -5,7 +5,7 @@ use Rattle.std.specs.List.{flat_map, enumerate_from, list_all, AllByRecursion}
 use Rattle.std.proofs.lemmas.Bool.{eqb-false, not-true}
 use Rattle.std.proofs.lemmas.Fmt.{decimal_by_steps}
 use Rattle.b1_model.specs.declared.commands.Command.{Command}
-use Rattle.b1_model.specs.declared.commands.Command.TheVariants.{Disconnect, Query, Reset, Release, Destroy, SliceRelease, Send, Recv, Await}
+use Rattle.b1_model.specs.declared.commands.Command.TheVariants.{Disconnect, Query, Reset, Limit, Release, Destroy, SliceRelease, Send, Recv, Await}
 use Rattle.b1_model.specs.declared.commands.SendCmd.{SendCmd}
 use Rattle.b1_model.specs.declared.naming.PeerSpec.{PeerSpec}
 use Rattle.b1_model.specs.declared.naming.Wire.{Wire}
@@ -14,7 +14,7 @@ use Rattle.b1_records.specs.Spelling.{Is32, Is64, IsWithin, HasNumbers, IsSend}
 use Rattle.b1_script.specs.declared.script.Script.{Script}
 use Rattle.b1_script.specs.Spelling.{IsSpec, IsWire}
 use Rattle.b1_text_words.specs.declared.items.Form.TheVariants.{Script as in_script}
-use Rattle.b1_text_words.specs.Commands.{command_text_in}
+use Rattle.b1_text_words.specs.Commands.{command_text_in, HasWords}
 use Rattle.b1_text_words.specs.Numbers.{script_handle_text, script_offset_text, list_text, hex_pair, hex_text}
 use Rattle.b1_text.specs.declared.statement.Statement.{Statement}
 use Rattle.b1_text.specs.declared.statement.Statement.TheVariants as says
@@ -60,13 +60,14 @@ turns_fit n (t ∷ ts) few h = (omega (arith, h.0, few), turns_fit n ts few h.1)
 pub statements_fit : (s : Script) → IsWritable s → AllByRecursion Fits (statements s)
 statements_fit s is =
     let o = is.has_spelling.opening in
+    let few = is.has_spelling.few in
     let n : length s.commands ≡ length s.opening.peers = is.has_spelling.lists in
     let start : AllByRecursion Fits (says.Name ∷ says.Clock s.opening.first_clock ∷ (map says.Peer s.opening.peers ++ map says.Wire s.opening.wires))
-    = (tt, (omega (arith, o.clock), all_both Fits (map says.Peer s.opening.peers) (map says.Wire s.opening.wires) (peers_fit s.opening.peers is.fields.peers) (wires_fit (length s.opening.peers) s.opening.wires [] o.most o.wires is.fields.wires))) in
-    let lists = lists_fit s.commands 0 (omega (arith, n, o.most)) is.has_spelling.commands is.fields.commands in
+    = (tt, (omega (arith, o.clock), all_both Fits (map says.Peer s.opening.peers) (map says.Wire s.opening.wires) (peers_fit s.opening.peers is.fields.peers) (wires_fit (length s.opening.peers) s.opening.wires [] few o.wires is.fields.wires))) in
+    let lists = lists_fit s.commands 0 (omega (arith, n, few)) is.has_spelling.commands is.fields.commands in
     all_both Fits (says.Name ∷ says.Clock s.opening.first_clock ∷ (map says.Peer s.opening.peers ++ map says.Wire s.opening.wires) ++ lists_statements s.commands) (says.Turns s.turns ∷ [])
     (all_both Fits (says.Name ∷ says.Clock s.opening.first_clock ∷ (map says.Peer s.opening.peers ++ map says.Wire s.opening.wires)) (lists_statements s.commands) start lists)
-    (record { peers = turns_fit (length s.opening.peers) s.turns o.most is.has_spelling.turns; few = omega (arith, length_parts s, is.has_spelling.short) }, tt)
+    (record { peers = turns_fit (length s.opening.peers) s.turns few is.has_spelling.turns; few = omega (arith, length_parts s, is.has_spelling.short) }, tt)
 
 -- ---- no line feed
 
@@ -142,6 +143,19 @@ load_clean s h =
     let cargo = spaced_off (list_text script_handle_text s.with) (codes "data " ++ hex_text s.payload) with tail in
     spaced_off (list_text script_handle_text s.to) (codes "with " ++ (list_text script_handle_text s.with ++ 32 ∷ (codes "data " ++ hex_text s.payload))) to (behind (codes "with ") (list_text script_handle_text s.with ++ 32 ∷ (codes "data " ++ hex_text s.payload)) refl cargo)
 
+-- what a record can carry has words
+pub has_words : (c : Command) → IsWithin c → HasWords in_script c
+has_words Disconnect h = tt
+has_words Query h = tt
+has_words (Reset limits) h = tt
+has_words (Limit limits) h = absurd h
+has_words (Release number) h = tt
+has_words (Destroy numbers) h = tt
+has_words (SliceRelease offset) h = tt
+has_words (Send send) h = tt
+has_words Recv h = tt
+has_words Await h = tt
+
 command_clean : (c : Command) → IsCarried c → IsLine (command_text_in in_script c)
 command_clean Disconnect h = clean (codes "disconnect") refl
 command_clean Query h = clean (codes "query") refl
@@ -150,6 +164,7 @@ command_clean (Reset limits) h =
     (spaced (decimal limits.entries ++ space ++ decimal limits.bytes) (decimal limits.handles)
     (spaced (decimal limits.entries) (decimal limits.bytes) (decimal_clean limits.entries (omega (arith, h.numbers.entries))) (decimal_clean limits.bytes (omega (arith, h.numbers.bytes))))
     (decimal_clean limits.handles (omega (arith, h.numbers.handles))))
+command_clean (Limit limits) h = absurd h.within
 command_clean (Release number) h = behind (codes "release ") (script_handle_text number) refl (handle_clean number h.numbers)
 command_clean (Destroy numbers) h = behind (codes "destroy ") (list_text script_handle_text numbers) refl (list_clean Is64 script_handle_text handle_clean numbers h.numbers)
 command_clean (SliceRelease offset) h = behind (codes "slice ") (script_offset_text offset) refl (offset_clean offset h.numbers)

@@ -6,7 +6,7 @@ use Rattle.std.proofs.lemmas.Bool.{eqb-true}
 use Rattle.std.proofs.lemmas.Fmt.{decimal_injective, decimal_by_steps}
 use Rattle.std.proofs.lemmas.List.{append-nil}
 use Rattle.b1_model.specs.declared.commands.Command.{Command}
-use Rattle.b1_model.specs.declared.commands.Command.TheVariants.{Disconnect, Query, Reset, Release, Destroy, SliceRelease, Send, Recv, Await}
+use Rattle.b1_model.specs.declared.commands.Command.TheVariants.{Disconnect, Query, Reset, Limit, Release, Destroy, SliceRelease, Send, Recv, Await}
 use Rattle.b1_model.specs.declared.commands.SendCmd.{SendCmd}
 use Rattle.b1_records.specs.Spelling.{Is32, Is64, IsByte, AreLimits}
 use Rattle.b1_script.specs.declared.script.Script.{Script}
@@ -263,6 +263,7 @@ code : Command → ℕ
 code Disconnect = four (codes "disconnect")
 code Query = four (codes "query")
 code (Reset limits) = four (codes "reset ")
+code (Limit limits) = four (codes "limit ")
 code (Release n) = four (codes "release ")
 code (Destroy ns) = four (codes "destroy ")
 code (SliceRelease n) = four (codes "slice ")
@@ -280,6 +281,7 @@ unfolding four code
 code_is Disconnect = refl
 code_is Query = refl
 code_is (Reset limits) = refl
+code_is (Limit limits) = refl
 code_is (Release n) = refl
 code_is (Destroy ns) = refl
 code_is (SliceRelease n) = refl
@@ -297,6 +299,7 @@ same_command Query Query same h k e = refl
 same_command (Reset l) (Reset m) same h k e =
     let body : limits_body l ≡ limits_body m = sym (three_parts (decimal l.entries) (decimal l.bytes) (decimal l.handles)) ∙ ap (λ (x : List ℕ). drop 6 x) e ∙ three_parts (decimal m.entries) (decimal m.bytes) (decimal m.handles) in
     ap (λ x. Reset x) (limits_tell l m h.numbers k.numbers body)
+same_command (Limit l) (Limit m) same h k e = absurd h.within
 same_command (Release m) (Release n) same h k e = ap (λ x. Release x) (handle_tells m n h.numbers k.numbers (ap (λ (x : List ℕ). drop 8 x) e))
 same_command (Destroy ms) (Destroy ns) same h k e = ap (λ x. Destroy x) (handle_lists_tell ms ns h.numbers k.numbers (ap (λ (x : List ℕ). drop 8 x) e))
 same_command (SliceRelease m) (SliceRelease n) same h k e = ap (λ x. SliceRelease x) (offset_tells m n h.numbers k.numbers (ap (λ (x : List ℕ). drop 6 x) e))

@@ -4,9 +4,9 @@ use Rattle.std.specs.Prelude.{IsSomeAnd}
 use Rattle.std.specs.Option.{option_map_or}
 use Rattle.std.specs.List.{list_all, AllByRecursion}
 use Rattle.std.proofs.lemmas.Bool.{leb-true, le-leb, eqb-true, eqb-false, ne_eqb, not-true, not_from_false, ltb-true, lt-ltb}
+use Rattle.b1_model.specs.declared.limits.TheConstants.{CLOCK_LIMIT, MOST_POOL, MOST_SCRIPT}
 use Rattle.b1_model.specs.declared.naming.Wire.{Wire}
 use Rattle.b1_model.specs.Opening.{from_owner, CanWire, IsPool}
-use Rattle.b1_script.specs.Spelling.{most_script}
 use Rattle.b1_script.specs.Reading.{is_first_clock, is_pool, gives_foreign}
 use Rattle.b1_text.specs.Drafts.{can_wire, has_room}
 
@@ -22,27 +22,27 @@ pub passed : {A : Type 0} (b : Bool) (x y : A) → cond b (Some x) None ≡ Some
 passed true x y h = (refl, cc)
 passed false x y h = absurd cc
 
-pub clock_test : (n : ℕ) → n % 2 ≡ 0 → n ≤ 2 ^ 62 → is_first_clock n ≡ true
-clock_test n even most = both (eqb (n % 2) 0) (leb n (2 ^ 62)) (eq-eqb (n % 2) 0 even) (le-leb n (2 ^ 62) most)
+pub clock_test : (n : ℕ) → n % 2 ≡ 0 → n ≤ CLOCK_LIMIT → is_first_clock n ≡ true
+clock_test n even most = both (eqb (n % 2) 0) (leb n (CLOCK_LIMIT)) (eq-eqb (n % 2) 0 even) (le-leb n (CLOCK_LIMIT) most)
 
-pub clock_is : (n : ℕ) → is_first_clock n ≡ true → (n % 2 ≡ 0) × (n ≤ 2 ^ 62)
-clock_is n h = let b = both_of (eqb (n % 2) 0) (leb n (2 ^ 62)) h in (eqb-true (n % 2) 0 b.0, leb-true n (2 ^ 62) b.1)
+pub clock_is : (n : ℕ) → is_first_clock n ≡ true → (n % 2 ≡ 0) × (n ≤ CLOCK_LIMIT)
+clock_is n h = let b = both_of (eqb (n % 2) 0) (leb n (CLOCK_LIMIT)) h in (eqb-true (n % 2) 0 b.0, leb-true n (CLOCK_LIMIT) b.1)
 
 pub pool_test : (n : ℕ) → IsPool n → is_pool n ≡ true
 pool_test n p =
-    both (eqb (n % 8) 0 && leb 8 n) (leb n 4194304) (both (eqb (n % 8) 0) (leb 8 n) (eq-eqb (n % 8) 0 p.eighths) (le-leb 8 n p.least)) (le-leb n 4194304 p.most)
+    both (eqb (n % 8) 0 && leb 8 n) (leb n MOST_POOL) (both (eqb (n % 8) 0) (leb 8 n) (eq-eqb (n % 8) 0 p.eighths) (le-leb 8 n p.least)) (le-leb n MOST_POOL p.most)
 
 pub pool_is : (n : ℕ) → is_pool n ≡ true → IsPool n
 pool_is n h =
-    let b = both_of (eqb (n % 8) 0 && leb 8 n) (leb n 4194304) h in
+    let b = both_of (eqb (n % 8) 0 && leb 8 n) (leb n MOST_POOL) h in
     let c = both_of (eqb (n % 8) 0) (leb 8 n) b.0 in
-    record { eighths = eqb-true (n % 8) 0 c.0; least = leb-true 8 n c.1; most = leb-true n 4194304 b.1 }
+    record { eighths = eqb-true (n % 8) 0 c.0; least = leb-true 8 n c.1; most = leb-true n MOST_POOL b.1 }
 
-pub room_test : (len more : ℕ) → len + more ≤ most_script → has_room len more ≡ true
-room_test len more h = le-leb (len + more) most_script h
+pub room_test : (len more : ℕ) → len + more ≤ MOST_SCRIPT → has_room len more ≡ true
+room_test len more h = le-leb (len + more) MOST_SCRIPT h
 
-pub room_is : (len more : ℕ) → has_room len more ≡ true → len + more ≤ most_script
-room_is len more h = leb-true (len + more) most_script h
+pub room_is : (len more : ℕ) → has_room len more ≡ true → len + more ≤ MOST_SCRIPT
+room_is len more h = leb-true (len + more) MOST_SCRIPT h
 
 foreign_is : (given : Option Wire) (to : ℕ) → option_map_or (λ g. not (eqb g.from to)) given false ≡ true → IsSomeAnd given (λ g. g.from ≢ to)
 foreign_is None to h = absurd cc

@@ -4,14 +4,16 @@ use Rattle.std.specs.List.{flat_map, enumerate_from, list_all, AllByRecursion}
 use Rattle.std.proofs.lemmas.Bool.{lt-ltb, ltb-true, eqb-true}
 use Rattle.std.proofs.lemmas.Grind.{flat_map-append}
 use Rattle.std.proofs.lemmas.List.{append-nil, length-append, map-append}
+use Rattle.b1_model.specs.declared.limits.TheConstants.{CLOCK_LIMIT, MOST_FILE_PEERS, MOST_SCRIPT}
 use Rattle.b1_model.specs.declared.commands.Command.{Command}
 use Rattle.b1_model.specs.declared.naming.Opening.{Opening}
 use Rattle.b1_model.specs.declared.naming.PeerSpec.{PeerSpec}
 use Rattle.b1_model.specs.declared.naming.Wire.{Wire}
 use Rattle.b1_model.specs.Opening.{after_wire, CanWire, AreWired, HasPool}
+use Rattle.b1_model.proofs.Pools.{few_pools}
 use Rattle.b1_records.specs.Spelling.{IsWithin, HasNumbers}
 use Rattle.b1_script.specs.declared.script.Script.{Script}
-use Rattle.b1_script.specs.Spelling.{most_script, IsSpec, IsWire}
+use Rattle.b1_script.specs.Spelling.{IsSpec, IsWire}
 use Rattle.b1_script.specs.Reading.{is_first_clock, is_pool}
 use Rattle.b1_text.specs.declared.draft.Draft.{Draft}
 use Rattle.b1_text.specs.declared.draft.Draft.TheVariants.{Empty, Named, Opened, Listing, Whole}
@@ -90,14 +92,14 @@ start_len o = peers_len (length o.peers) + 16 * length o.wires
 
 -- an opening that can be begun with, but for a first peer
 pub record IsBegun (o : Opening) : Type 0 where
-  pub most : length o.peers ≤ 64
+  pub most : length o.peers ≤ MOST_FILE_PEERS
   pub even : o.first_clock % 2 ≡ 0
-  pub clock : o.first_clock ≤ 2 ^ 62
+  pub clock : o.first_clock ≤ CLOCK_LIMIT
   pub pools : AllByRecursion HasPool o.peers
   pub specs : AllByRecursion IsSpec o.peers
   pub wired : AreWired (length o.peers) [] o.wires
   pub fields : AllByRecursion IsWire o.wires
-  pub short : start_len o ≤ most_script
+  pub short : start_len o ≤ MOST_SCRIPT
 
 abbrev start_statements : Opening → List Statement
 start_statements o = opening_statements (script_of o [] [])
@@ -113,7 +115,7 @@ pub record IsListing (o : Opening) (lists : List (List Command)) (list : List Co
   pub few : length lists + 1 ≤ length o.peers
   pub carried : AllByRecursion (AllByRecursion IsCarried) (lists ++ list ∷ [])
   pub counts : len ≡ start_len o + lists_sum (lists ++ list ∷ [])
-  pub short : len ≤ most_script
+  pub short : len ≤ MOST_SCRIPT
   pub lines : read ≡ start_statements o ++ lists_statements (lists ++ list ∷ [])
 
 pub record IsFinished (s : Script) (read : List Statement) : Type 0 where
@@ -143,10 +145,10 @@ peer_made : (o : Opening) (held : List Wire) (len : ℕ) (read : List Statement)
     → IsOpened (record o { peers = o.peers ++ p ∷ [] }) held (len + peer_len o) (read ++ says.Peer p ∷ [])
 peer_made o held len read p made spec can room =
     let b = made.begun in
-    let split = both_of ((eqb (length o.wires) 0) && ltb (length o.peers) 64) (is_pool p.pool) can in
-    let tests = both_of (eqb (length o.wires) 0) (ltb (length o.peers) 64) split.0 in
+    let split = both_of ((eqb (length o.wires) 0) && ltb (length o.peers) MOST_FILE_PEERS) (is_pool p.pool) can in
+    let tests = both_of (eqb (length o.wires) 0) (ltb (length o.peers) MOST_FILE_PEERS) split.0 in
     let none : length o.wires ≡ 0 = eqb-true (length o.wires) 0 tests.0 in
-    let few : length o.peers < 64 = ltb-true (length o.peers) 64 tests.1 in
+    let few : length o.peers < MOST_FILE_PEERS = ltb-true (length o.peers) MOST_FILE_PEERS tests.1 in
     let n : length (o.peers ++ p ∷ []) ≡ length o.peers + 1 = length-append o.peers (p ∷ []) in
     let sum = peers_more (length o.peers) (eqb (length o.peers) 0) refl in
     let fits = room_is len (peer_len o) room in
@@ -253,16 +255,19 @@ turns_made o lists list len read turns made can room =
         has_spelling = record {
           opening = record {
             least = omega (arith, all);
-            most = begun.most;
+            most = omega (arith, begun.most);
             even = begun.even;
             clock = begun.clock;
             pools = begun.pools;
+            together = few_pools o.peers begun.most begun.pools;
             few = omega (arith, begun.short);
             wires = begun.wired;
           };
+          few = begun.most;
           lists = n ∙ all;
           commands = each (AllByRecursion IsCarried) (AllByRecursion IsWithin) (λ cs k. each IsCarried IsWithin (λ c x. x.within) cs k) (lists ++ list ∷ []) made.carried;
           turns = peers_are (length o.peers) turns b.1;
+          cookies = refl;
           short = omega (arith, sizes, made.counts, fits, n, all);
         };
         fields = record {

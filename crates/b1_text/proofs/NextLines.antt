@@ -5,12 +5,13 @@ use Rattle.std.specs.List.{list_all, list_any, AllByRecursion}
 use Rattle.std.specs.Prelude.{unwrap_or}
 use Rattle.std.specs.Option.{option_map}
 use Rattle.std.proofs.lemmas.List.{length-append}
+use Rattle.b1_model.specs.declared.limits.TheConstants.{MOST_SCRIPT}
 use Rattle.b1_model.specs.declared.commands.Command.{Command}
 use Rattle.b1_model.specs.declared.naming.Opening.{Opening}
 use Rattle.b1_model.specs.declared.naming.Wire.{Wire}
 use Rattle.b1_model.specs.Opening.{from_owner, with_held, after_wire, is_same}
 use Rattle.b1_records.specs.Spelling.{Is32, Is64}
-use Rattle.b1_script.specs.Spelling.{most_script, IsSpec}
+use Rattle.b1_script.specs.Spelling.{IsSpec}
 use Rattle.b1_script.specs.Reading.{is_first_clock}
 use Rattle.b1_text_words.specs.declared.items.Item.TheVariants.{UpTo}
 use Rattle.b1_text_words.specs.Items.{AreItems}
@@ -200,18 +201,18 @@ peers_fit : (lists : ℕ) (ts : List ℕ) → lists < 64 → AllByRecursion (λ 
 peers_fit lists [] few h = tt
 peers_fit lists (t ∷ ts) few h = (omega (arith, few, h.0), peers_fit lists ts few h.1)
 
-turns_room : (len k : ℕ) → len ≤ most_script → k ≤ (most_script - len) / 8 * 2 → len + turns_len k ≤ most_script
+turns_room : (len k : ℕ) → len ≤ MOST_SCRIPT → k ≤ (MOST_SCRIPT - len) / 8 * 2 → len + turns_len k ≤ MOST_SCRIPT
 turns_room len k short few = omega (arith, short, few)
 
-room_turns : (len k : ℕ) → len ≤ most_script → len + turns_len k ≤ most_script → k ≤ (most_script - len) / 8 * 2
+room_turns : (len k : ℕ) → len ≤ MOST_SCRIPT → len + turns_len k ≤ MOST_SCRIPT → k ≤ (MOST_SCRIPT - len) / 8 * 2
 room_turns len k short few = omega (arith, short, few)
 
-pub turns_test : (o : Opening) (lists len most : ℕ) (line : List ℕ) (r : Bool) → lists + 1 ≡ length o.peers → lists < 64 → len ≤ most_script → most ≡ (most_script - len) / 8 * 2
+pub turns_test : (o : Opening) (lists len most : ℕ) (line : List ℕ) (r : Bool) → lists + 1 ≡ length o.peers → lists < 64 → len ≤ MOST_SCRIPT → most ≡ (MOST_SCRIPT - len) / 8 * 2
     → IsTrue r ↔ Begins (Spells (λ ns. codes "turns " ++ list_text decimal ns) (AreItems (UpTo lists) most)) line → IsTrue r ↔ TurnsBegin o lists len line
 turns_test o lists len most line r all few short is h =
     same_test (λ ns. codes "turns " ++ list_text decimal ns) (AreItems (UpTo lists) most) (Passes AreTurns (λ ts. can_turn o (lists + 1) ts && has_room len (turns_len (length ts)))) line r
     (λ ts items.
-    let count : length ts ≤ (most_script - len) / 8 * 2 = omega (arith, items.few, is) in
+    let count : length ts ≤ (MOST_SCRIPT - len) / 8 * 2 = omega (arith, items.few, is) in
     let peers : AllByRecursion (λ p. p < length o.peers) ts = peers_up lists (length o.peers) ts all items.items in
     let can : can_turn o (lists + 1) ts ≡ true = both (eqb (lists + 1) (length o.peers)) (list_all (λ p. ltb p (length o.peers)) ts) (eq-eqb (lists + 1) (length o.peers) all) (peers_test (length o.peers) ts peers) in
     record {

@@ -1,16 +1,17 @@
 -- A script's statements, taken one after the other, make the script.
-use Rattle.std.proofs.Common.{◌≡◌, ℕ, ◌+◌, ◌-◌, ◌*◌, ◌%◌, ◌^◌, ◌<◌, ◌≤◌, Bool, true, ◌&&◌, cond, eqb, ltb, List, [], ◌∷◌, ◌++◌, length, map, Option, Some, None, refl, ap, ◌∙◌, append_assoc, arith, eq-eqb}
+use Rattle.std.proofs.Common.{◌≡◌, ℕ, ◌+◌, ◌-◌, ◌*◌, ◌%◌, ◌^◌, ◌<◌, ◌≤◌, Bool, true, ◌&&◌, cond, eqb, ltb, List, [], ◌∷◌, ◌++◌, length, map, Option, Some, None, refl, sym, ap, ◌∙◌, append_assoc, arith, eq-eqb}
 use Rattle.std.specs.List.{flat_map, enumerate_from, AllByRecursion}
 use Rattle.std.proofs.lemmas.Bool.{lt-ltb}
 use Rattle.std.proofs.lemmas.List.{append-nil, length-append}
 use Rattle.std.proofs.lemmas.List.Concat.{flat_map-cons}
+use Rattle.b1_model.specs.declared.limits.TheConstants.{CLOCK_LIMIT, MOST_FILE_PEERS, MOST_SCRIPT}
 use Rattle.b1_model.specs.declared.commands.Command.{Command}
 use Rattle.b1_model.specs.declared.naming.Opening.{Opening}
 use Rattle.b1_model.specs.declared.naming.PeerSpec.{PeerSpec}
 use Rattle.b1_model.specs.declared.naming.Wire.{Wire}
 use Rattle.b1_model.specs.Opening.{after_wire, CanWire, AreWired, HasPool}
 use Rattle.b1_script.specs.declared.script.Script.{Script}
-use Rattle.b1_script.specs.Spelling.{most_script, HasSpelling}
+use Rattle.b1_script.specs.Spelling.{HasSpelling}
 use Rattle.b1_script.specs.Reading.{is_pool}
 use Rattle.b1_text.specs.declared.draft.Draft.{Draft}
 use Rattle.b1_text.specs.declared.draft.Draft.TheVariants.{Empty, Named, Opened, Listing, Whole}
@@ -43,18 +44,18 @@ peers_len n = 72 + 32 * (n - 1)
 pub peers_more : (n : ℕ) (b : Bool) → eqb n 0 ≡ b → peers_len n + cond b 0 32 ≡ peers_len (n + 1)
 peers_more n b is = grind arith
 
-peer_step : (clock : ℕ) (front : List PeerSpec) (p : PeerSpec) → HasPool p → length front < 64
+peer_step : (clock : ℕ) (front : List PeerSpec) (p : PeerSpec) → HasPool p → length front < MOST_FILE_PEERS
     → step (Opened (opening_of clock front []) [] (peers_len (length front))) (says.Peer p) ≡ Some (Opened (opening_of clock (front ++ p ∷ []) []) [] (peers_len (length (front ++ p ∷ []))))
 peer_step clock front p pool few =
     let o : Opening = opening_of clock front [] in
     let n : length (front ++ p ∷ []) ≡ length front + 1 = length-append front (p ∷ []) in
     let sum = peers_more (length front) (eqb (length front) 0) refl in
-    let can : can_peer o p ≡ true = both (ltb (length front) 64) (is_pool p.pool) (lt-ltb (length front) 64 few) (pool_test p.pool pool) in
+    let can : can_peer o p ≡ true = both (ltb (length front) MOST_FILE_PEERS) (is_pool p.pool) (lt-ltb (length front) MOST_FILE_PEERS few) (pool_test p.pool pool) in
     let room : has_room (peers_len (length front)) (peer_len o) ≡ true = room_test (peers_len (length front)) (peer_len o) (omega (arith, sum)) in
     let test : (can_peer o p && has_room (peers_len (length front)) (peer_len o)) ≡ true = both (can_peer o p) (has_room (peers_len (length front)) (peer_len o)) can room in
     rw (test, sum, n) refl
 
-peers_run : (clock : ℕ) (ps front : List PeerSpec) (more : List Statement) → AllByRecursion HasPool ps → length front + length ps ≤ 64
+peers_run : (clock : ℕ) (ps front : List PeerSpec) (more : List Statement) → AllByRecursion HasPool ps → length front + length ps ≤ MOST_FILE_PEERS
     → run (Some (Opened (opening_of clock front []) [] (peers_len (length front)))) (map says.Peer ps ++ more) ≡ run (Some (Opened (opening_of clock (front ++ ps) []) [] (peers_len (length (front ++ ps))))) more
 peers_run clock [] front more pools few = rw (append-nil front) refl
 peers_run clock (p ∷ ps) front more pools few =
@@ -68,13 +69,13 @@ abbrev pub all_wires : List Wire → List Wire → List Wire
 all_wires held [] = held
 all_wires held (w ∷ ws) = all_wires (after_wire held w) ws
 
-wire_step : (clock : ℕ) (peers : List PeerSpec) (front held : List Wire) (len : ℕ) (w : Wire) → CanWire (length peers) held w → len + 16 ≤ most_script
+wire_step : (clock : ℕ) (peers : List PeerSpec) (front held : List Wire) (len : ℕ) (w : Wire) → CanWire (length peers) held w → len + 16 ≤ MOST_SCRIPT
     → step (Opened (opening_of clock peers front) held len) (says.Wire w) ≡ Some (Opened (opening_of clock peers (front ++ w ∷ [])) (after_wire held w) (len + 16))
 wire_step clock peers front held len w can short =
     let test : (can_wire (length peers) held w && has_room len 16) ≡ true = both (can_wire (length peers) held w) (has_room len 16) (wire_test (length peers) held w can) (room_test len 16 short) in
     rw test refl
 
-wires_run : (clock : ℕ) (peers : List PeerSpec) (ws front held : List Wire) (len : ℕ) (more : List Statement) → AreWired (length peers) held ws → len + 16 * length ws ≤ most_script
+wires_run : (clock : ℕ) (peers : List PeerSpec) (ws front held : List Wire) (len : ℕ) (more : List Statement) → AreWired (length peers) held ws → len + 16 * length ws ≤ MOST_SCRIPT
     → run (Some (Opened (opening_of clock peers front) held len)) (map says.Wire ws ++ more) ≡ run (Some (Opened (opening_of clock peers (front ++ ws)) (all_wires held ws) (len + 16 * length ws))) more
 wires_run clock peers [] front held len more wired short = let sum : len + 0 ≡ len = omega arith in rw (append-nil front, sum) refl
 wires_run clock peers (w ∷ ws) front held len more wired short =
@@ -87,11 +88,11 @@ wires_run clock peers (w ∷ ws) front held len more wired short =
 
 -- ---- commands
 
-command_step : (o : Opening) (lists : List (List Command)) (front : List Command) (len : ℕ) (c : Command) → len + record_len c ≤ most_script
+command_step : (o : Opening) (lists : List (List Command)) (front : List Command) (len : ℕ) (c : Command) → len + record_len c ≤ MOST_SCRIPT
     → step (Listing o lists front len) (says.Command c) ≡ Some (Listing o lists (front ++ c ∷ []) (len + record_len c))
 command_step o lists front len c short = rw (room_test len (record_len c) short) refl
 
-commands_run : (o : Opening) (lists : List (List Command)) (cs front : List Command) (len : ℕ) (more : List Statement) → len + records_sum cs ≤ most_script
+commands_run : (o : Opening) (lists : List (List Command)) (cs front : List Command) (len : ℕ) (more : List Statement) → len + records_sum cs ≤ MOST_SCRIPT
     → run (Some (Listing o lists front len)) (map says.Command cs ++ more) ≡ run (Some (Listing o lists (front ++ cs) (len + records_sum cs))) more
 commands_run o lists [] front len more short = let sum : len + 0 ≡ len = omega arith in rw (append-nil front, sum) refl
 commands_run o lists (c ∷ cs) front len more short =
@@ -103,10 +104,10 @@ commands_run o lists (c ∷ cs) front len more short =
     ∙ ap (λ (n : ℕ). run (Some (Listing o lists (front ++ c ∷ cs) n)) more) sum
 
 abbrev pub script_of : Opening → List (List Command) → List ℕ → Script
-script_of o lists turns = record { opening = o; commands = lists; turns = turns }
+script_of o lists turns = record { opening = o; commands = lists; turns = turns; cookies = None }
 
 turns_step : (o : Opening) (lists : List (List Command)) (list : List Command) (len : ℕ) (turns : List ℕ) → length lists + 1 ≡ length o.peers → AllByRecursion (λ p. p < length o.peers) turns
-    → len + turns_len (length turns) ≤ most_script → step (Listing o lists list len) (says.Turns turns) ≡ Some (Whole (script_of o (lists ++ list ∷ []) turns))
+    → len + turns_len (length turns) ≤ MOST_SCRIPT → step (Listing o lists list len) (says.Turns turns) ≡ Some (Whole (script_of o (lists ++ list ∷ []) turns))
 turns_step o lists list len turns all peers short =
     let can : can_turn o (length lists + 1) turns ≡ true = both (eqb (length lists + 1) (length o.peers)) _ (eq-eqb (length lists + 1) (length o.peers) all) (peers_test (length o.peers) turns peers) in
     let room : has_room len (turns_len (length turns)) ≡ true = room_test len (turns_len (length turns)) short in
@@ -121,7 +122,7 @@ list_step o lists list len p at few =
 
 -- the lists that are left, and the turns
 lists_run : (o : Opening) (rest lists : List (List Command)) (list : List Command) (len : ℕ) (turns : List ℕ) (n : ℕ) → n ≡ length lists + 1 → length lists + 1 + length rest ≡ length o.peers
-    → AllByRecursion (λ p. p < length o.peers) turns → len + lists_sum rest + turns_len (length turns) ≤ most_script
+    → AllByRecursion (λ p. p < length o.peers) turns → len + lists_sum rest + turns_len (length turns) ≤ MOST_SCRIPT
     → run (Some (Listing o lists list len)) (flat_map list_statements (enumerate_from n rest) ++ says.Turns turns ∷ []) ≡ Some (Whole (script_of o (lists ++ list ∷ rest) turns))
 lists_run o [] lists list len turns n at all peers short = turns_step o lists list len turns (omega (arith, all)) peers (omega (arith, short))
 lists_run o (cs ∷ rest) lists list len turns n at all peers short =
@@ -144,7 +145,7 @@ first_list_step o held len some = rw (lt-ltb 0 (length o.peers) some) refl
 
 -- all lists, and the turns
 all_lists_run : (o : Opening) (held : List Wire) (lists : List (List Command)) (len : ℕ) (turns : List ℕ) → 1 ≤ length o.peers → length lists ≡ length o.peers
-    → AllByRecursion (λ p. p < length o.peers) turns → len + lists_sum lists + turns_len (length turns) ≤ most_script
+    → AllByRecursion (λ p. p < length o.peers) turns → len + lists_sum lists + turns_len (length turns) ≤ MOST_SCRIPT
     → run (Some (Opened o held len)) (flat_map list_statements (enumerate_from 0 lists) ++ says.Turns turns ∷ []) ≡ Some (Whole (script_of o lists turns))
 all_lists_run o held [] len turns some all peers short = absurd (omega (arith, some, all))
 all_lists_run o held (cs ∷ rest) len turns some all peers short =
@@ -157,7 +158,7 @@ all_lists_run o held (cs ∷ rest) len turns some all peers short =
     let three = lists_run o rest [] cs (len + records_sum cs) turns 1 refl (omega (arith, all)) peers (omega (arith, short)) in
     ap (λ (x : List Statement). run (Some (Opened o held len)) x) split ∙ ap (λ (r : Option Draft). run r (map says.Command cs ++ after)) one ∙ two ∙ three
 
-clock_step : (clock : ℕ) → clock % 2 ≡ 0 → clock ≤ 2 ^ 62 → step Named (says.Clock clock) ≡ Some (Opened (opening_of clock [] []) [] 72)
+clock_step : (clock : ℕ) → clock % 2 ≡ 0 → clock ≤ CLOCK_LIMIT → step Named (says.Clock clock) ≡ Some (Opened (opening_of clock [] []) [] 72)
 clock_step clock even most = rw (clock_test clock even most) refl
 
 pub whole_run : (s : Script) → HasSpelling s → run (Some Empty) (statements s) ≡ Some (Whole s)
@@ -169,13 +170,14 @@ whole_run s has =
     let end : List Statement = says.Turns s.turns ∷ [] in
     let o = has.opening in
     let len = length_parts s in
-    let sum : peers_len (length peers) + 16 * length wires + lists_sum s.commands + turns_len (length s.turns) ≤ most_script = omega (arith, len, has.short, o.least, has.lists) in
+    let sum : peers_len (length peers) + 16 * length wires + lists_sum s.commands + turns_len (length s.turns) ≤ MOST_SCRIPT = omega (arith, len, has.short, o.least, has.lists) in
     let parts_are : map says.Peer peers ++ map says.Wire wires ++ lists ++ end ≡ map says.Peer peers ++ (map says.Wire wires ++ (lists ++ end))
     = append_assoc (map says.Peer peers ++ map says.Wire wires) lists end ∙ append_assoc (map says.Peer peers) (map says.Wire wires) (lists ++ end) in
     let one = clock_step clock o.even o.clock in
-    let two = peers_run clock peers [] (map says.Wire wires ++ (lists ++ end)) o.pools (omega (arith, o.most)) in
+    let two = peers_run clock peers [] (map says.Wire wires ++ (lists ++ end)) o.pools (omega (arith, has.few)) in
     let three = wires_run clock peers wires [] [] (peers_len (length peers)) (lists ++ end) o.wires (omega (arith, sum)) in
     let four = all_lists_run s.opening (all_wires [] wires) s.commands (peers_len (length peers) + 16 * length wires) s.turns o.least has.lists has.turns sum in
     ap (λ (r : Option Draft). run r (map says.Peer peers ++ map says.Wire wires ++ lists ++ end)) one
     ∙ ap (λ (x : List Statement). run (Some (Opened (opening_of clock [] []) [] 72)) x) parts_are
     ∙ two ∙ three ∙ four
+    ∙ ap (λ (cookies : Option (List (List ℕ))). Some (Whole (record s { cookies = cookies }))) (sym has.cookies)

@@ -1,16 +1,13 @@
 -- Which texts are accepted, and where the others break.
 use Rattle.std.specs.Prelude.{◌≡◌, ◌≢◌, ℕ, ◌<◌, ◌≤◌, ◌⊎◌, List, [], ◌∷◌, ◌++◌, length}
 use Rattle.std.specs.List.{AllByRecursion}
+use Rattle.b1_model.specs.declared.limits.TheConstants.{MOST_TEXT}
 use Rattle.b1_errs.specs.declared.Cause.TheVariants.{Long, Line}
 use Rattle.b1_errs.specs.declared.NotRead.{NotRead}
 use Rattle.b1_errs.specs.declared.NotRead.TheVariants.{Bad, Memory}
 use Rattle.b1_script.specs.declared.script.Script.{Script}
 use Rattle.b1_script.specs.Spelling.{HasSpelling, HasFields}
 use Rattle.b1_text.specs.Texts.{script_text}
-
--- how many bytes a text has at most
-abbrev pub most_text : ℕ
-most_text = 67108864
 
 -- a script that a script file can say
 pub record IsWritable (s : Script) : Type 0 where
@@ -72,6 +69,6 @@ pub data BreaksAt (bytes : List ℕ) (at : ℕ) : Type 0 where
 -- why a text isn't read: that it is too long comes first
 abbrev pub IsFault : List ℕ → NotRead → Type 0
 IsFault bytes Memory = Unit {0}
-IsFault bytes (Bad at Long) = (at ≡ most_text) × (most_text < length bytes)
-IsFault bytes (Bad at Line) = BreaksAt bytes at × (length bytes ≤ most_text)
+IsFault bytes (Bad at Long) = (at ≡ MOST_TEXT) × (MOST_TEXT < length bytes)
+IsFault bytes (Bad at Line) = BreaksAt bytes at × (length bytes ≤ MOST_TEXT)
 IsFault bytes (Bad at _) = ⊥

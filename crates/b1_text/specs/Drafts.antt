@@ -1,6 +1,7 @@
 -- A script as far as the lines of its text were read, and what each further line makes of it.
 use Rattle.std.specs.Prelude.{◌≡◌, ℕ, ◌+◌, ◌*◌, ◌%◌, ◌≤◌, Bool, ◌&&◌, ◌==◌, not, nat_lt, nat_le, if◌then◌else◌, List, [], ◌∷◌, ◌++◌, length, Option, Some, None, IsSome}
 use Rattle.std.specs.List.{list_all, AllByRecursion}
+use Rattle.b1_model.specs.declared.limits.TheConstants.{MOST_FILE_PEERS, MOST_SCRIPT}
 use Rattle.b1_model.specs.declared.commands.Command.{Command}
 use Rattle.b1_model.specs.declared.naming.Opening.{Opening}
 use Rattle.b1_model.specs.declared.naming.PeerSpec.{PeerSpec}
@@ -8,7 +9,7 @@ use Rattle.b1_model.specs.declared.naming.Wire.{Wire}
 use Rattle.b1_model.specs.Opening.{after_wire}
 use Rattle.b1_records.specs.Spelling.{Is32, Is64, IsWithin, HasNumbers}
 use Rattle.b1_records.specs.Spelling as records
-use Rattle.b1_script.specs.Spelling.{most_script, IsSpec}
+use Rattle.b1_script.specs.Spelling.{IsSpec}
 use Rattle.b1_script.specs.Reading.{is_first_clock, is_pool, gives_foreign}
 use Rattle.b1_text.specs.declared.draft.Draft.{Draft}
 use Rattle.b1_text.specs.declared.draft.Draft.TheVariants.{Empty, Named, Opened, Listing, Whole}
@@ -30,7 +31,7 @@ pub record IsCarried (c : Command) : Type 0 where
 -- turns of which a script can have so many, each of which fits its field
 pub record AreTurns (turns : List ℕ) : Type 0 where
   pub peers : AllByRecursion Is32 turns
-  pub few : length turns ≤ most_script
+  pub few : length turns ≤ MOST_SCRIPT
 
 -- each number of a statement fits its field
 abbrev pub Fits : Statement → Type 0
@@ -64,15 +65,15 @@ wire_len = 16
 
 -- whether so many bytes more are not too many
 abbrev pub has_room : ℕ → ℕ → Bool
-has_room len more = nat_le (len + more) most_script
+has_room len more = nat_le (len + more) MOST_SCRIPT
 
 -- the first clock
 abbrev pub opened : ℕ → Option Draft
 opened clock = if is_first_clock clock then Some (Opened (record { first_clock = clock; peers = []; wires = [] }) [] least_len) else None
 
--- whether an opening can have one more peer: no wire, fewer than 64 peers
+-- whether an opening can have one more peer: no wire, fewer peers than a file may have
 abbrev pub can_peer : Opening → PeerSpec → Bool
-can_peer o p = (length o.wires == 0) && nat_lt (length o.peers) 64 && is_pool p.pool
+can_peer o p = (length o.wires == 0) && nat_lt (length o.peers) MOST_FILE_PEERS && is_pool p.pool
 
 -- one more peer
 abbrev pub with_peer : Opening → List Wire → ℕ → PeerSpec → Option Draft
@@ -110,7 +111,7 @@ can_turn o lists turns = (lists == length o.peers) && list_all (λ p. nat_lt p (
 abbrev pub with_turns : Opening → List (List Command) → List Command → ℕ → List ℕ → Option Draft
 with_turns o lists list len turns =
     if can_turn o (length lists + 1) turns && has_room len (turns_len (length turns))
-    then Some (Whole (record { opening = o; commands = lists ++ list ∷ []; turns = turns })) else None
+    then Some (Whole (record { opening = o; commands = lists ++ list ∷ []; turns = turns; cookies = None })) else None
 
 -- what a statement makes of an empty text, of its name, of an opening, of lists of commands
 abbrev pub after_nothing : Statement → Option Draft

@@ -3,6 +3,7 @@ use Rattle.std.specs.Prelude.{◌≡◌, ℕ, ◌-◌, ◌*◌, ◌%◌, ◌<◌
 use Rattle.std.specs.List.{AllByRecursion}
 use Rattle.b1_model.specs.declared.commands.Command.{Command}
 use Rattle.b1_model.specs.declared.commands.Command.TheVariants.{Disconnect, Query, Reset, Release, Destroy, SliceRelease, Send, Recv, Await}
+use Rattle.b1_model.specs.declared.limits.TheConstants.{WIRE_LIMIT}
 use Rattle.b1_model.specs.declared.naming.PeerSpec.{PeerSpec}
 use Rattle.b1_model.specs.declared.naming.Wire.{Wire}
 use Rattle.b1_model.specs.Opening.{HasPool}
@@ -38,7 +39,7 @@ pub record IsOwn (n : ℕ) : Type 0 where
 
 -- so few wires that their given numbers are small
 abbrev pub AreFew : List Wire → Type 0
-AreFew held = length held < 2 ^ 20
+AreFew held = length held < WIRE_LIMIT
 
 -- a command for whose record there is room
 pub record HasRoom (room : ℕ) (c : Command) : Type 0 where

@@ -1,19 +1,17 @@
 ghost use Rattle.std.specs.Prelude.{◌≡◌, ◌≤◌, IfOk, MatchOption, length, take, drop};
 ghost use Rattle.b1_errs.specs.declared.NotRead.TheVariants.{Bad};
 ghost use Rattle.b1_errs.specs.declared.Cause.TheVariants.{Line};
-ghost use Rattle.b1_text.specs.Accepted.{most_text, IsLine};
+ghost use Rattle.b1_text.specs.Accepted.{IsLine};
 ghost use Rattle.b1_text.specs.Progress.{Makes, LeadsTo, IsFirstLine, Answers};
 
 use crate::beginning::can_become_next;
 use crate::draft::Draft;
 use crate::lines::read_line;
 use b1_errs::{Cause, NotRead};
+use b1_model::MOST_TEXT;
 use b1_script::Script;
 use b1_text_words::split;
 use std::alloc::{AllocError, Global};
-
-/// How many bytes a text has at most.
-pub const MOST_TEXT: usize = 67_108_864;
 
 const LINE_FEED: u8 = 10;
 
@@ -49,7 +47,7 @@ fn next_draft(alloc: Global, draft: Draft, line: &[u8]) -> Result<Option<Draft>,
 /// The script of a whole draft.
 fn whole(draft: Draft, bytes: &[u8]) -> Result<Script, NotRead>
     requires makes { Makes bytes.now draft }
-    requires short { length bytes.now ≤ most_text }
+    requires short { length bytes.now ≤ MOST_TEXT }
     ensures { Answers bytes.now result }
 {
     match draft {
@@ -63,7 +61,7 @@ fn finish(alloc: Global, draft: Draft, bytes: &[u8], at: usize) -> Result<Script
     requires makes { Makes (take at bytes.now) draft }
     requires line { IsLine (drop at bytes.now) }
     requires within { at ≤ length bytes.now }
-    requires short { length bytes.now ≤ most_text }
+    requires short { length bytes.now ≤ MOST_TEXT }
     ensures { Answers bytes.now result }
 {
     if at == bytes.len() {
@@ -78,7 +76,7 @@ fn finish(alloc: Global, draft: Draft, bytes: &[u8], at: usize) -> Result<Script
 
 /// The script whose text the bytes are.
 pub fn read_text(alloc: Global, bytes: &[u8]) -> Result<Script, NotRead>
-    requires { length bytes.now ≤ most_text }
+    requires { length bytes.now ≤ MOST_TEXT }
     ensures { Answers bytes.now result }
 {
     let mut draft = Draft::Empty;

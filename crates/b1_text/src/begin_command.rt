@@ -7,18 +7,12 @@ ghost use Rattle.b1_text.specs.Drafts.{IsCarried, has_room, record_len};
 ghost use Rattle.b1_text.specs.Nexts.{Passes, HasRoom, HasRoomAs, is_plain, is_reference, is_reset, is_send, IsPayload, IsCargo, IsLoad, data_text, cargo_text, with_text, load_text};
 
 use crate::begin_parts::{begins_one, begins_several};
-use crate::draft::MOST_SCRIPT;
 use crate::fields::behind;
+use b1_model::{MOST_BYTES, MOST_NUMBERS, MOST_SCRIPT};
 use b1_text_words::{
     Form, Item, Kind, begins_bytes, begins_line, begins_list, begins_text, read_list, split,
 };
 use std::alloc::{AllocError, Global};
-
-/// How many numbers one list of a record has at most.
-const MOST_NUMBERS: usize = 1024;
-
-/// How many bytes a payload has at most.
-const MOST_BYTES: usize = 1_048_576;
 
 /// Whether the line of a command for whose record there is room begins with these bytes. An error is want of memory.
 pub fn begins_next_command(alloc: Global, len: usize, line: &[u8]) -> Result<bool, AllocError>
@@ -89,10 +83,10 @@ fn most_handles(room: usize) -> u64
     ensures { (n : ℕ) → n ≤ result ↔ ((n ≤ most_numbers) × (8 * n ≤ room)) }
 {
     let fit = room / 8;
-    if fit < MOST_NUMBERS {
+    if fit < MOST_NUMBERS as usize {
         return fit as u64;
     }
-    MOST_NUMBERS as u64
+    u64::from(MOST_NUMBERS)
 }
 
 /// The same of a SEND.
@@ -165,8 +159,8 @@ fn most_bytes(room: usize) -> u64
     ensures { (n : ℕ) → n ≤ result ↔ ((n ≤ most_bytes) × (rounded n ≤ room)) }
 {
     let fit = room / 8 * 8;
-    if fit < MOST_BYTES {
+    if fit < MOST_BYTES as usize {
         return fit as u64;
     }
-    MOST_BYTES as u64
+    u64::from(MOST_BYTES)
 }

@@ -13,8 +13,8 @@ ghost use Rattle.b1_text.specs.Nexts.{IsReached, Passes, HasSpec, AreFew};
 use crate::begin_command::begins_next_command;
 use crate::begin_parts::{begins_number, begins_one, begins_several};
 use crate::begin_wire::begins_next_wire;
-use crate::draft::{Draft, MOST_PEERS, MOST_SCRIPT, has_room, peer_len};
-use b1_model::{CommandLists, Commands, Held, Opening};
+use crate::draft::{Draft, has_room, peer_len};
+use b1_model::{CommandLists, Commands, Held, MOST_FILE_PEERS, MOST_SCRIPT, Opening};
 use b1_text_words::{Item, Kind, Numbers, begins_line, begins_text};
 use std::alloc::{AllocError, Global};
 
@@ -63,7 +63,7 @@ fn begins_next_peer(opening: &Opening, len: usize, line: &[u8]) -> bool
     ensures { IsTrue result ↔ Begins (Spells peer_text (Passes IsSpec (λ p. can_peer opening.now p && has_room len (peer_len opening.now)))) line.now }
 {
     opening.wires.len() == 0
-        && opening.peers.len() < MOST_PEERS
+        && opening.peers.len() < MOST_FILE_PEERS
         && has_room(len, peer_len(opening))
         && begins_spec(line)
 }

@@ -1,22 +1,16 @@
 ghost use Rattle.std.specs.Prelude.{◌≡◌, ◌++◌, ◌∷◌, ◌<◌, ◌≤◌, [], length, IfOk};
 ghost use Rattle.std.specs.List.{list_all};
 ghost use Rattle.std.specs.Prelude.{nat_lt};
-ghost use Rattle.b1_script.specs.Spelling.{most_script};
 ghost use Rattle.b1_script.specs.Reading.{is_first_clock, is_pool, gives_foreign};
 ghost use Rattle.b1_text.specs.Drafts.{Fits, IsCarried, record_len, turns_len, has_room, opened, can_peer, peer_len, with_peer, can_wire, with_wire, with_first_list, with_list, with_command, can_turn, with_turns, after_nothing, after_name, after_opening, after_lists, step};
 
 use crate::statement::Statement;
 use b1_model::{
-    Command, CommandLists, Commands, Held, Items, Opening, PeerSpec, Peers, Wire, Wires,
+    CLOCK_LIMIT, Command, CommandLists, Commands, Held, Items, MOST_FILE_PEERS, MOST_POOL,
+    MOST_SCRIPT, Opening, PeerSpec, Peers, Wire, Wires,
 };
 use b1_script::{Script, Turns};
 use std::alloc::{AllocError, Global};
-
-/// How many bytes a script has at most.
-pub(crate) const MOST_SCRIPT: usize = 16_777_216;
-
-/// How many peers there are at most.
-pub(crate) const MOST_PEERS: usize = 64;
 
 /// How many bytes the least script has: one peer, no wires, commands or turns.
 const LEAST_LEN: usize = 72;
@@ -103,11 +97,11 @@ fn take_clock(alloc: Global, statement: Statement) -> Option<Draft>
     }
 }
 
-/// Whether a clock may be the first: even, and at most 2^62.
+/// Whether a clock may be the first: even, and at most `CLOCK_LIMIT`.
 fn may_be_first(clock: u64) -> bool
     ensures { result ≡ is_first_clock clock }
 {
-    clock % 2 == 0 && clock <= 1 << 62
+    clock % 2 == 0 && clock <= CLOCK_LIMIT
 }
 
 fn open(alloc: Global, clock: u64) -> Option<Draft>
@@ -151,17 +145,17 @@ pub(crate) fn has_room(len: usize, more: usize) -> bool
     len <= MOST_SCRIPT && more <= MOST_SCRIPT - len
 }
 
-/// Whether a pool may have this size: a multiple of 8 from 8 to 4,194,304.
+/// Whether a pool may have this size: a multiple of 8 from 8 to `MOST_POOL`.
 fn may_be_pool(size: u32) -> bool
     ensures { result ≡ is_pool size }
 {
-    size % 8 == 0 && size >= 8 && size <= 4_194_304
+    size % 8 == 0 && size >= 8 && size <= MOST_POOL
 }
 
 fn can_peer(opening: &Opening, peer: &PeerSpec) -> bool
     ensures { result ≡ can_peer opening.now peer.now }
 {
-    opening.wires.len() == 0 && opening.peers.len() < MOST_PEERS && may_be_pool(peer.pool)
+    opening.wires.len() == 0 && opening.peers.len() < MOST_FILE_PEERS && may_be_pool(peer.pool)
 }
 
 pub(crate) fn peer_len(opening: &Opening) -> usize
@@ -297,6 +291,7 @@ pub(crate) fn record_len(command: &Command) -> usize
     match command {
         Command::Disconnect | Command::Query | Command::Recv | Command::Await => 8,
         Command::Reset { .. } => 24,
+        Command::Limit { .. } => unreachable!(),
         Command::Release { .. } | Command::SliceRelease { .. } => 16,
         Command::Destroy { numbers } => 16 + 8 * numbers.len(),
         Command::Send(send) => {
@@ -365,5 +360,6 @@ fn take_turns(
         opening,
         commands: lists,
         turns,
+        cookies: None,
     })))
 }

@@ -11,22 +11,22 @@ mod fields;
 mod lines;
 mod printing;
 mod statement;
-mod words;
 
 ghost use Rattle.std.specs.Prelude.{◌≡◌, ◌≤◌, ℕ, List, Ok, IfOk, IfErr, length};
 ghost use Rattle.b1_records.specs.Reading.{Gives};
 ghost use Rattle.b1_script.specs.declared.script.Script.{Script};
 ghost use Rattle.b1_script.specs.Spelling.{HasSpelling};
 ghost use Rattle.b1_text.specs.Texts.{script_text};
-ghost use Rattle.b1_text.specs.Accepted.{most_text, IsText, IsAccepted, IsFault, BreaksAt};
+ghost use Rattle.b1_text.specs.Accepted.{IsText, IsAccepted, IsFault, BreaksAt};
 
-use assembling::{MOST_TEXT, read_text};
+use assembling::read_text;
 use b1_errs::{Cause, NotRead};
+use b1_model::MOST_TEXT;
 use b1_script::Script;
 use printing::write_script;
 use std::alloc::{AllocError, Global};
 
-/// The text of a script. An error is want of memory.
+/// The text of a script without cookies, in which no PEER_RESET is without flush. An error is want of memory.
 pub fn print_script(alloc: Global, script: &Script) -> Result<Vec<u8>, AllocError>
     requires { HasSpelling script.now }
     ensures { IfOk result (λ text. text.items ≡ script_text script.now) }
@@ -36,14 +36,14 @@ pub fn print_script(alloc: Global, script: &Script) -> Result<Vec<u8>, AllocErro
     Ok(out.into_bytes())
 }
 
-/// The script whose text the bytes are. A text of more than 67,108,864 bytes is `Long` at 67,108,864. Else a fault is
+/// The script whose text the bytes are. A text of more than `MOST_TEXT` bytes is `Long` at `MOST_TEXT`. Else a fault is
 /// `Line`, at the first byte of the first line after which no accepted text can go on, or at the end of a text that
 /// was cut off.
 pub fn assemble(alloc: Global, bytes: &[u8]) -> Result<Script, NotRead>
     // The bytes are the text of what is read, which a script file can say.
     ensures found { IfOk result (λ s. IsText bytes.now s) }
     // The script whose text they are is read, unless memory runs out.
-    ensures only { (s : Script) → length bytes.now ≤ most_text → IsText bytes.now s
+    ensures only { (s : Script) → length bytes.now ≤ MOST_TEXT → IsText bytes.now s
         → Gives (λ x. x) result (Ok s) }
     // A fault is that the text is too long, or where it breaks.
     ensures bad { IfErr result (λ why. IsFault bytes.now why) }

@@ -5,9 +5,9 @@ ghost use Rattle.b1_text_words.specs.Words.{Reads};
 ghost use Rattle.b1_text.specs.Texts.{statement_text};
 ghost use Rattle.b1_text.specs.Drafts.{Fits};
 
-use crate::draft::MOST_SCRIPT;
 use crate::fields::{behind, read_peer, read_u32, read_u64, read_wire};
 use crate::statement::Statement;
+use b1_model::MOST_SCRIPT;
 use b1_script::Turns;
 use b1_text_words::{Form, Item, is_text, read_command, read_list};
 use std::alloc::{AllocError, Global};

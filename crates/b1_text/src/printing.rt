@@ -1,15 +1,20 @@
 ghost use Rattle.std.specs.Prelude.{◌≡◌, ◌++◌, OnOk, string_bytes};
-ghost use Rattle.std.specs.List.{flat_map};
+ghost use Rattle.std.specs.Fmt.{decimal};
+ghost use Rattle.std.specs.List.{flat_map, AllByRecursion};
+ghost use Rattle.b1_records.specs.Spelling.{IsWithin};
+ghost use Rattle.b1_script.specs.Spelling.{HasSpelling};
+ghost use Rattle.b1_text_words.specs.Numbers.{list_text};
 ghost use Rattle.b1_text.specs.declared.statement.Statement.TheVariants as says;
 ghost use Rattle.b1_text.specs.Texts.{line_text, list_statements, lists_statements, opening_statements, script_text};
 
-use crate::words::{write_command, write_handle, write_numbers};
 use b1_model::{Command, Commands, PeerSpec, Wire};
 use b1_script::Script;
+use b1_text_words::{Form, Item, write_command, write_item};
 use std::alloc::AllocError;
 use std::fmt::Write;
 
 pub(crate) fn write_script(out: &mut String, script: &Script) -> Result<(), AllocError>
+    requires { HasSpelling script.now }
     ensures { OnOk result (string_bytes out.new ≡ string_bytes out.old ++ script_text script.now) }
 {
     write_opening(out, script)?;
@@ -57,11 +62,12 @@ fn write_wire(out: &mut String, wire: &Wire) -> Result<(), AllocError>
     ensures { OnOk result (string_bytes out.new ≡ string_bytes out.old ++ line_text (says.Wire wire.now)) }
 {
     write!(out, "wire {} ", wire.from)?;
-    write_handle(out, wire.number)?;
+    write_item(out, Item::Handle(Form::Script), wire.number)?;
     write!(out, " {}\n", wire.to)
 }
 
 fn write_lists(out: &mut String, lists: &[Commands]) -> Result<(), AllocError>
+    requires { AllByRecursion (AllByRecursion IsWithin) lists.now }
     ensures { OnOk result (string_bytes out.new ≡ string_bytes out.old ++ flat_map line_text (lists_statements lists.now)) }
 {
     for (number, commands) in lists.iter().enumerate() {
@@ -71,6 +77,7 @@ fn write_lists(out: &mut String, lists: &[Commands]) -> Result<(), AllocError>
 }
 
 fn write_list(out: &mut String, number: usize, commands: &Commands) -> Result<(), AllocError>
+    requires { AllByRecursion IsWithin commands.now }
     ensures { OnOk result (string_bytes out.new ≡ string_bytes out.old ++ flat_map line_text (list_statements (number, commands.now))) }
 {
     write!(out, "commands {number}\n")?;
@@ -78,6 +85,7 @@ fn write_list(out: &mut String, number: usize, commands: &Commands) -> Result<()
 }
 
 fn write_commands(out: &mut String, commands: &[Command]) -> Result<(), AllocError>
+    requires { AllByRecursion IsWithin commands.now }
     ensures { OnOk result (string_bytes out.new ≡ string_bytes out.old ++ flat_map (λ c. line_text (says.Command c)) commands.now) }
 {
     for command in commands {
@@ -87,9 +95,10 @@ fn write_commands(out: &mut String, commands: &[Command]) -> Result<(), AllocErr
 }
 
 fn write_command_line(out: &mut String, command: &Command) -> Result<(), AllocError>
+    requires { IsWithin command.now }
     ensures { OnOk result (string_bytes out.new ≡ string_bytes out.old ++ line_text (says.Command command.now)) }
 {
-    write_command(out, command)?;
+    write_command(out, Form::Script, command)?;
     out.push_str("\n")
 }
 
@@ -99,4 +108,18 @@ fn write_turns(out: &mut String, turns: &[u32]) -> Result<(), AllocError>
     out.push_str("turns ")?;
     write_numbers(out, turns)?;
     out.push_str("\n")
+}
+
+/// The peers of turns.
+fn write_numbers(out: &mut String, numbers: &[u32]) -> Result<(), AllocError>
+    ensures { OnOk result (string_bytes out.new ≡ string_bytes out.old ++ list_text decimal numbers.now) }
+{
+    let [first, rest @ ..] = numbers else {
+        return out.push_str("-");
+    };
+    write!(out, "{first}")?;
+    for number in rest {
+        write!(out, ",{number}")?;
+    }
+    Ok(())
 }

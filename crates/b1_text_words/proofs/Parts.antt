@@ -186,6 +186,7 @@ is_grouped form cmd.Recv is = inl tt
 is_grouped Script cmd.Await is = inl tt
 is_grouped Report cmd.Await is = absurd is
 is_grouped form (cmd.Reset limits) is = inr (inl (inr (inr (inl is))))
+is_grouped form (cmd.Limit limits) is = absurd is
 is_grouped form (cmd.Release number) is = inr (inl (inl is))
 is_grouped form (cmd.Destroy numbers) is = inr (inl (inr (inr (inr is))))
 is_grouped form (cmd.SliceRelease offset) is = inr (inl (inr (inl is)))

@@ -206,6 +206,7 @@ send_of form rest (cmd.Send send) is same =
 send_of form rest cmd.Disconnect is same = absurd (let h = ap (λ w. get_or w 0 0) same in omega (arith, h))
 send_of form rest cmd.Query is same = absurd (let h = ap (λ w. get_or w 0 0) same in omega (arith, h))
 send_of form rest (cmd.Reset limits) is same = absurd (let h = ap (λ w. get_or w 0 0) same in omega (arith, h))
+send_of form rest (cmd.Limit limits) is same = absurd is
 send_of form rest (cmd.Release number) is same = absurd (let h = ap (λ w. get_or w 0 0) same in omega (arith, h))
 send_of form rest (cmd.Destroy numbers) is same = absurd (let h = ap (λ w. get_or w 0 0) same in omega (arith, h))
 send_of form rest (cmd.SliceRelease offset) is same = absurd (let h = ap (λ w. get_or w 1 0) same in omega (arith, h))

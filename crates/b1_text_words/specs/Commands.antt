@@ -4,6 +4,7 @@ use Rattle.std.specs.Fmt.{decimal}
 use Rattle.b1_model.specs.declared.commands.Command.{Command}
 use Rattle.b1_model.specs.declared.commands.Command.TheVariants as cmd
 use Rattle.b1_model.specs.declared.commands.SendCmd.{SendCmd}
+use Rattle.b1_model.specs.declared.limits.TheConstants.{MOST_NUMBERS, MOST_BYTES}
 use Rattle.b1_model.specs.declared.naming.Limits.{Limits}
 use Rattle.b1_text_words.specs.declared.items.Form.{Form}
 use Rattle.b1_text_words.specs.declared.items.Form.TheVariants.{Script, Report}
@@ -20,21 +21,28 @@ abbrev pub send_text_in : Form → SendCmd → List ℕ
 send_text_in form s =
     codes "send " ++ flag_of s.go_on ++ list_text (item_text (Handle form)) s.to ++ codes " with " ++ list_text (item_text (Handle form)) s.with ++ codes " data " ++ hex_text s.payload
 
--- the limits of a RESET
+-- the limits of a PEER_RESET
 abbrev pub limits_text : Limits → List ℕ
 limits_text limits = decimal limits.entries ++ codes " " ++ decimal limits.bytes ++ codes " " ++ decimal limits.handles
 
--- a command, in a script or in a report
+-- a command, in a script or in a report; the words of a PEER_RESET without flush stand in neither yet
 abbrev pub command_text_in : Form → Command → List ℕ
 command_text_in form cmd.Disconnect = codes "disconnect"
 command_text_in form cmd.Query = codes "query"
 command_text_in form (cmd.Reset limits) = codes "reset " ++ limits_text limits
+command_text_in form (cmd.Limit limits) = codes "limit " ++ limits_text limits
 command_text_in form (cmd.Release number) = codes "release " ++ item_text (Handle form) number
 command_text_in form (cmd.Destroy numbers) = codes "destroy " ++ list_text (item_text (Handle form)) numbers
 command_text_in form (cmd.SliceRelease offset) = codes "slice " ++ item_text (Offset form) offset
 command_text_in form (cmd.Send send) = send_text_in form send
 command_text_in form cmd.Recv = codes "recv"
 command_text_in form cmd.Await = codes "await"
+
+-- a command that has words in this form: an AWAIT has none in a report, and a PEER_RESET without flush none in either yet
+abbrev pub HasWords : Form → Command → Type 0
+HasWords form (cmd.Limit limits) = ⊥
+HasWords Report cmd.Await = ⊥
+HasWords form command = Unit {0}
 
 -- in a report
 abbrev pub send_text : SendCmd → List ℕ
@@ -45,11 +53,11 @@ command_text = command_text_in Report
 
 -- how many numbers one list has at most, and how many bytes a payload: a report has no limit
 abbrev pub most_numbers : Form → ℕ
-most_numbers Script = 1024
+most_numbers Script = MOST_NUMBERS
 most_numbers Report = 2 ^ 64 - 1
 
 abbrev pub most_bytes : Form → ℕ
-most_bytes Script = 1048576
+most_bytes Script = MOST_BYTES
 most_bytes Report = 2 ^ 64 - 1
 
 -- limits that fit their fields
@@ -64,9 +72,11 @@ pub record IsSend (form : Form) (send : SendCmd) : Type 0 where
   pub with : AreItems (Handle form) (most_numbers form) send.with
   pub payload : AreBytes (most_bytes form) send.payload
 
--- a command of this form: its numbers fit their fields, its lists have no more items than the form allows, and no AWAIT stands in a report
+-- a command of this form: its numbers fit their fields, and its lists have no more items than the form allows; no AWAIT
+-- stands in a report, and no PEER_RESET without flush in either form yet
 abbrev pub IsCommand : Form → Command → Type 0
 IsCommand form (cmd.Reset limits) = AreLimits limits
+IsCommand form (cmd.Limit limits) = ⊥
 IsCommand form (cmd.Release number) = number < 2 ^ 64
 IsCommand form (cmd.Destroy numbers) = AreItems (Handle form) (most_numbers form) numbers
 IsCommand form (cmd.SliceRelease offset) = offset < 2 ^ 64

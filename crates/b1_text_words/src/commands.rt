@@ -9,7 +9,7 @@ use crate::keys::{read_pair, read_small};
 use crate::kinds::{Kind, begins_line};
 use crate::lists::read_list;
 use crate::splitting::{begins_text, is_text, split};
-use b1_model::{Command, Limits, SendCmd};
+use b1_model::{Command, Limits, MOST_BYTES, MOST_NUMBERS, SendCmd};
 use std::alloc::{AllocError, Global};
 
 /// The command that a line spells; `None` where it spells none of this form. An error is want of memory.
@@ -185,7 +185,7 @@ fn most_numbers(form: Form) -> u64
     ensures { result ≡ spec_numbers form }
 {
     match form {
-        Form::Script => 1024,
+        Form::Script => u64::from(MOST_NUMBERS),
         Form::Report => u64::MAX,
     }
 }
@@ -194,7 +194,7 @@ fn most_bytes(form: Form) -> u64
     ensures { result ≡ spec_bytes form }
 {
     match form {
-        Form::Script => 1_048_576,
+        Form::Script => u64::from(MOST_BYTES),
         Form::Report => u64::MAX,
     }
 }

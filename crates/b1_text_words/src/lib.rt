@@ -1,4 +1,5 @@
-//! The words of the texts: numbers, lists, bytes, keys and commands, read whole, and the bytes that begin one.
+//! The words of the texts: numbers, lists, bytes, keys and commands, read whole and written, and the bytes that
+//! begin one.
 #![tactic(auto)]
 
 mod among;
@@ -11,6 +12,7 @@ mod kinds;
 mod lists;
 mod operands;
 mod splitting;
+mod writing;
 
 pub use among::Numbers;
 pub use bytes::{begins_bytes, fits_bytes, read_bytes};
@@ -20,6 +22,7 @@ pub use keys::{begins_key, fits_key, read_key};
 pub use kinds::{Kind, begins_line, begins_word, fits_line, fits_word};
 pub use lists::{begins_list, fits_list, read_list};
 pub use splitting::{begins_text, is_text, split};
+pub use writing::{write_bytes, write_command, write_item, write_list};
 
 #[cfg(test)]
 mod tests;
