@@ -3,7 +3,7 @@ use Rattle.std.proofs.Common.{◌≡◌, ◌≢◌, refl, sym, ap, ◌∙◌, ar
 use Rattle.std.specs.List.{All, AllPairs}
 use Rattle.std.proofs.lemmas.List.Elements.{All-nil, All-cons}
 use Rattle.std.proofs.lemmas.List.Kept.{AllPairs-cons}
-use Rattle.b1_step.proofs.Lists.{has_filter, filter_has}
+use Rattle.b1_step.proofs.Lists.{has_filter, filter_has, has_all, all_has}
 use Rattle.std.proofs.lemmas.Bool.{eqb-true}
 use Rattle.std.proofs.Math.Bool.{and-false}
 use Rattle.b1_model.specs.declared.naming.Key.{Key}
@@ -29,9 +29,9 @@ use Rattle.b1_inv.specs.Notices.{NoticesRight}
 use Rattle.b1_inv.specs.Sound.{IsSound}
 use Rattle.b1_inv_tools.proofs.Leaves.{Did, step_did, peer_cases}
 use Rattle.b1_inv_sends.proofs.StagesKept.{opening_queue}
-use Rattle.b1_inv_sends.proofs.Events.{next_of, next_owed}
 use Rattle.b1_inv_apart.proofs.Entries.{is_own_staged, AllApart}
 use Rattle.b1_inv_apart.proofs.Events.{Fresh, event_once}
+use Rattle.b1_inv_tools.proofs.Facts.{next_of, next_owed, even_is}
 
 -- ---- the owner's staged notices
 
@@ -42,15 +42,6 @@ both_true false b is same = absurd (cc is)
 
 eqb-from : (m n : ℕ) → m ≡ n → (m == n) ≡ true
 eqb-from m n is = grind (arith, is)
-
-all_of : {X : Type 0} (P : X → Type 0) (xs : List X) → All P xs → (x : X) → Has xs x → P x
-all_of P [] all x h = absurd h
-all_of P (y ∷ xs) all x (inl same) = subst P (sym same) (all 0 y (omega arith))
-all_of P (y ∷ xs) all x (inr h) = all_of P xs (λ j d within. all (suc j) d (omega (arith, within))) x h
-
-all_has : {X : Type 0} (P : X → Type 0) (xs : List X) → ((x : X) → Has xs x → P x) → All P xs
-all_has P [] holds = All-nil P
-all_has P (x ∷ xs) holds = All-cons P x xs (holds x (inl refl)) (all_has P xs (λ y h. holds y (inr h)))
 
 module _ (q : ℕ) (s : State) (x : PeerPart) (is_x : IsPeer s q x) (notices : NoticesRight s) where
   three : (a b c : Bool) → (not a && b && c) ≡ true → (a ≡ false) × (b ≡ true) × (c ≡ true)
@@ -98,7 +89,7 @@ module _ (q : ℕ) (s : State) (x : PeerPart) (is_x : IsPeer s q x) (notices : N
       by_test : (b : Bool) → b ≡ is_staged_notice q f → (AllPairs (λ a c. a.0.index ≢ c.0.index) (filter (is_staged_notice q) rest) → AllApart rest)
           → AllPairs (λ a c. a.0.index ≢ c.0.index) (cond b (f ∷ filter (is_staged_notice q) rest) (filter (is_staged_notice q) rest)) → AllApart (f ∷ rest)
       by_test true same further apart = (
-        λ g h own other. all_of (λ c. f.0.index ≢ c.0.index) (filter (is_staged_notice q) rest) (λ j d within. apart 0 (suc j) d (omega arith) (omega (arith, within))) g
+        λ g h own other. has_all (λ c. f.0.index ≢ c.0.index) (filter (is_staged_notice q) rest) g (λ j d within. apart 0 (suc j) d (omega arith) (omega (arith, within)))
             (has_filter (is_staged_notice q) rest g h (own_staged g.0 g.1 (inside g (inr h)) other)),
         further (λ i j d before within. apart (suc i) (suc j) d (omega (arith, before)) (omega (arith, within))),
       )
@@ -122,9 +113,6 @@ module _ {o : Opening} {s : State} {p : ℕ} {command : Option Command} {t : Sta
     | inl is ↦ even_is stamp (sound.clocks.stamp p step.driver stamp step.is_driver (ap (λ doing. elim doing [ None ↦ None | Some one ↦ stamp_of_phase one.phase ]) is ∙ fixed)).0
     | inr begins ↦ absurd (cc (sym (ap stamp_of_phase begins.2) ∙ fixed))
   ]
-    where
-      even_is : (n : ℕ) → n % 2 ≡ 0 → is_odd n ≡ false
-      even_is n is = ap (λ m. m == 1) is
 
   -- a driver that begins has no destruction open
   none_staged : k.doing.phase ≡ Starting → step.at ≡ p → (g : Key × Entry) → Has step.peer.queue g → is_own_staged g ≡ false

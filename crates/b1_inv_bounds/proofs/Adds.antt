@@ -22,10 +22,11 @@ use Rattle.b1_inv.specs.Bounds.{calls_begun, attaches, attach_bound}
 use Rattle.b1_inv.specs.Sound.{IsSound}
 use Rattle.b1_inv_tools.proofs.Leaves.{Did, step_did}
 use Rattle.b1_inv_refs.proofs.Kept.{accepted_within}
-use Rattle.b1_inv_refs.proofs.Counting.{next_of, next_owed, is_open, shape}
-use Rattle.b1_inv_bounds.proofs.Begun.{open_begun, none_begun, more_calls, turn_now, new_begun}
+use Rattle.b1_inv_refs.proofs.Counting.{is_open, shape}
+use Rattle.b1_inv_bounds.proofs.Begun.{open_begun, none_begun, turn_now, new_begun}
 use Rattle.b1_inv_bounds.proofs.Quiet.{is_growing, is_attach, attach_phase}
 use Rattle.b1_inv_bounds.proofs.Attaches.{turn_attaches, turned_attaches, open_attaches, none_attaches, attaching_more, attaching_stays, stamping_stays, Small, started_small, phase_small, turn_small, small_within}
+use Rattle.b1_inv_tools.proofs.Facts.{next_of, next_owed, more_calls}
 
 module _ {o : Opening} {s : State} {p : ℕ} {command : Option Command} {t : State} (sound : IsSound o s) (step : Step o s p command t) where
   abbrev k : Did o step.local.memory step.driver command step.peer step.action step.at step.new_driver step.new_peer

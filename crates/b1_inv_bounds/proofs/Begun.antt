@@ -27,6 +27,7 @@ use Rattle.b1_inv.specs.Bounds.{calls_begun}
 use Rattle.b1_inv.specs.Sound.{IsSound}
 use Rattle.b1_inv_tools.proofs.Leaves.{Did, step_did}
 use Rattle.b1_inv_refs.proofs.Places.{part_there}
+use Rattle.b1_inv_tools.proofs.Facts.{destroy_waits, more_calls}
 
 -- ---- where a command then stands
 
@@ -106,18 +107,6 @@ turn_one command (Goes phase) is = at (answer_of command phase)
 send_waits : (command : Command) → IsSend command → is_await command ≡ false
 send_waits command is = ap is_await is.is_send
 
-destroy_waits : (command : Command) → IsDestroying command → is_await command ≡ false
-destroy_waits (cmd.Destroy numbers) is = refl
-destroy_waits (cmd.Reset limits) is = refl
-destroy_waits cmd.Disconnect is = refl
-destroy_waits cmd.Query is = refl
-destroy_waits (cmd.Limit limits) is = refl
-destroy_waits (cmd.Release number) is = refl
-destroy_waits (cmd.SliceRelease offset) is = refl
-destroy_waits (cmd.Send c) is = refl
-destroy_waits cmd.Recv is = refl
-destroy_waits cmd.Await is = absurd is
-
 -- a phase without an answer is of such a command
 phase_waits : (s : State) (peers : ℕ) (x : PeerPart) (command : Command) (phase : Phase) → SendShape s command phase → DestructionShape peers x command phase → answer_of command phase ≡ None → is_await command ≡ false
 phase_waits s peers x command Starting send doom is = absurd send
@@ -129,10 +118,6 @@ phase_waits s peers x command (Dooming destruction) send doom is = destroy_waits
 phase_waits s peers x command phase send doom is = absurd (cc is)
 
 -- ---- a step
-
-pub more_calls : (old new : List Call) → AtMostOneMore old new → length old ≤ length new
-more_calls old new (inl same) = let k = ap length same in omega (arith, k)
-more_calls old new (inr (c, same)) = let k = ap length same in let l = length-append old (c ∷ []) in omega (arith, k, l)
 
 module _ {o : Opening} {s : State} {p : ℕ} {command : Option Command} {t : State} (sound : IsSound o s) (step : Step o s p command t) where
   abbrev k : Did o step.local.memory step.driver command step.peer step.action step.at step.new_driver step.new_peer

@@ -28,6 +28,7 @@ use Rattle.b1_inv.specs.Words.{stamp_of_phase}
 use Rattle.b1_inv.specs.Clocks.{IsClock, can_be_stamped}
 use Rattle.b1_inv_notices.proofs.Turns.{doing_in, opened, OnTurn, may_end}
 use Rattle.b1_inv_notices.proofs.Sets.{drop_has}
+use Rattle.b1_step.proofs.Lists.{has_append}
 
 -- ---- clocks within a bound
 
@@ -155,11 +156,6 @@ turned_owed d command (Ends got) = refl
 
 pub took_owed : (d : DriverPart) (command : Command) (phase : Phase) (owed : List OwedDrop) (outcome : Outcome) → (took (opened d command phase owed) outcome).owed ≡ owed_after d.me phase owed outcome
 took_owed d command phase owed outcome = turned_owed (with_facts (opened d command phase owed) (doing_in command phase) outcome) command (turn d.me command phase outcome)
-
-has_append : {X : Type 0} (xs ys : List X) (x : X) → Has (xs ++ ys) x → Has xs x ⊎ Has ys x
-has_append [] ys x h = inr h
-has_append (y ∷ xs) ys x (inl same) = inl (inl same)
-has_append (y ∷ xs) ys x (inr further) = elim (has_append xs ys x further) [ inl left ↦ inl (inr left) | inr right ↦ inr right ]
 
 drop_clock : (holder clock : ℕ) (refs : List (NodeRef × ℕ)) (one : OwedDrop) → Has (drops_of holder clock refs) one → one.clock ≡ clock
 drop_clock holder clock [] one h = absurd h

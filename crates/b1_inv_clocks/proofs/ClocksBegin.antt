@@ -17,6 +17,7 @@ use Rattle.b1_inv.specs.Clocks.{ClocksRight, IsClock, clock_bound}
 use Rattle.b1_inv_tools.proofs.Openings.{opening_each, opening_idle}
 use Rattle.b1_inv_notices.proofs.Sets.{has_index, has_at_place}
 use Rattle.b1_inv_notices.proofs.Nodes.{NodesKept, node_kept, made_kept}
+use Rattle.b1_inv_tools.proofs.Facts.{no_stamp}
 
 -- no node is destroyed
 abbrev NoneDestroyed : List NodePart → Type 0
@@ -56,9 +57,6 @@ module _ (o : Opening) where
 
   first_clock : IsOpening o → (n : ℕ) → n ≡ o.first_clock → IsClock (clock_bound (opening_state o)) n
   first_clock valid n same = (omega (arith, same, valid.even), let most : o.first_clock ≤ clock_limit = valid.clock in omega (arith, same, most))
-
-  no_stamp : (d : DriverPart) (stamp : ℕ) → d.doing ≡ None → fixed_stamp d ≡ Some stamp → ⊥
-  no_stamp d stamp none is = let both : Some stamp ≡ None = sym is ∙ ap (λ doing. elim doing [ None ↦ None | Some one ↦ stamp_of_phase one.phase ]) none in absurd (cc both)
 
   pub clocks_begin : IsOpening o → ClocksRight (opening_state o)
   clocks_begin valid = record {

@@ -16,6 +16,7 @@ use Rattle.b1_inv.specs.Stamps.{StampsRight}
 use Rattle.b1_inv_tools.proofs.Openings.{opening_each, opening_idle}
 use Rattle.b1_inv_notices.proofs.Sets.{others_none}
 use Rattle.b1_inv_notices.proofs.Nodes.{NodesKept, node_kept, made_kept}
+use Rattle.b1_inv_tools.proofs.Facts.{no_stamp}
 
 -- nothing is queued, nobody is late, and no node is dying
 pub record IsStill (x : PeerPart) : Type 0 where
@@ -56,9 +57,6 @@ module _ (o : Opening) where
     late = λ p d x is_driver is_peer. (subst (AreOthers x.peers x.me) (sym (opening_still p x is_peer).late) (others_none x.peers x.me), inl (opening_still p x is_peer).late);
     queued = λ q x f is_peer h. none_queued q x f is_peer h;
   }
-
-  no_stamp : (d : DriverPart) (stamp : ℕ) → d.doing ≡ None → fixed_stamp d ≡ Some stamp → ⊥
-  no_stamp d stamp none is = let both : Some stamp ≡ None = sym is ∙ ap (λ doing. elim doing [ None ↦ None | Some one ↦ stamp_of_phase one.phase ]) none in absurd (cc both)
 
   pub stamps_begin : StampsRight (opening_state o)
   stamps_begin = record {

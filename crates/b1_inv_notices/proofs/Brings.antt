@@ -32,11 +32,9 @@ use Rattle.b1_inv_tools.proofs.Comes.{Comes, leaves, queue_comes}
 use Rattle.b1_inv_notices.proofs.Turns.{doing_in, opened, answered, OnTurn}
 use Rattle.b1_inv_notices.proofs.Sets.{has_peer_new}
 use Rattle.b1_inv_notices.proofs.Awaits.{Awaited, NoticeOf, KeyRight, committed_notice, waits_visiting, waits_took}
+use Rattle.b1_inv_tools.proofs.Facts.{even_is}
 
 -- ---- even and odd stamps
-
-pub even_is : (n : ℕ) → n % 2 ≡ 0 → is_odd n ≡ false
-even_is n even = ap (λ m. m == 1) even
 
 pub even_max : (a b : ℕ) → a % 2 ≡ 0 → b % 2 ≡ 0 → max a b % 2 ≡ 0
 even_max a b h k = omega (arith, h, k)

@@ -45,6 +45,7 @@ use Rattle.b1_inv_notices.proofs.Own.{dying_in, Own, dooming_answer, own_calm, o
 use Rattle.b1_inv_notices.proofs.Dooms.{stamp_own, begin_own}
 use Rattle.b1_inv_notices.proofs.Serials.{reset_apart, reset_made, destroy_made, accepted_apart}
 use Rattle.b1_inv_notices.proofs.OwnCount.{own_count_none}
+use Rattle.b1_inv_tools.proofs.Facts.{accepted_within}
 
 -- ---- the peer's part
 
@@ -159,13 +160,6 @@ module _ (o : Opening) (memory : Bool) (d : DriverPart) (x : PeerPart) where
 module _ (s : State) (d : DriverPart) (command : Command) where
   made_owner : (nodes : List NodeRef) (place : ℕ) → place < length nodes → All (IsMade s) nodes → (node_of_place nodes place).owner < length s.peers
   made_owner nodes place within made = let k = All-get_or (IsMade s) nodes place no_ref within made in slice_get_within s.peers (node_of_place nodes place).owner k.0 k.1
-
-  accepted_within : (places : List (Option Reason)) (place : ℕ) → is_accepted_place places place ≡ true → place < length places
-  accepted_within places place is = by (slice_get places place) refl is
-    where
-      by : (found : Option (Option Reason)) → slice_get places place ≡ found → elim found [ None ↦ false | Some reason ↦ elim reason [ None ↦ true | Some r ↦ false ] ] ≡ true → place < length places
-      by None is accepted = absurd (cc accepted)
-      by (Some one) is accepted = slice_get_within places place one is
 
   pub attach_within : (phase : Phase) (owed : List OwedDrop) → SendShape s command phase → (peer serial dest : ℕ) → next_action (opened d command phase owed) ≡ act.Attach peer serial dest → dest < length s.peers
   attach_within phase (one ∷ rest) shape peer serial dest is = absurd (cc is)

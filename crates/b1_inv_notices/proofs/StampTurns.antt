@@ -23,6 +23,7 @@ use Rattle.b1_model.specs.MachineDriver.{next_accepted, accepted_from, is_place,
 use Rattle.b1_inv.specs.Words.{is_accepted_place, stamp_of_phase, waits_at, phase_uncommitted}
 use Rattle.b1_inv.specs.Stamps.{is_committing, is_committing_notices}
 use Rattle.b1_inv_notices.proofs.Turns.{doing_in, OnTurn, may_end}
+use Rattle.b1_inv_tools.proofs.Facts.{accepted_within}
 
 -- the fixed stamp of what is open
 abbrev pub fixed_in : Option Doing → Option ℕ
@@ -150,13 +151,6 @@ next_from here from (None ∷ rest) = by (nat_le from here) refl (next_from (her
     by true is k = inl (leb-true from here is)
     by false is (inl above) = inl above
     by false is (inr same) = inr (omega (arith, same))
-
-accepted_within : (places : List (Option Reason)) (place : ℕ) → is_accepted_place places place ≡ true → place < length places
-accepted_within places place is = by (slice_get places place) refl is
-  where
-    by : (found : Option (Option Reason)) → slice_get places place ≡ found → elim found [ None ↦ false | Some reason ↦ elim reason [ None ↦ true | Some r ↦ false ] ] ≡ true → place < length places
-    by None is accepted = absurd (cc accepted)
-    by (Some one) is accepted = slice_get_within places place one is
 
 -- the places that wait after a commit are behind it, and waited before
 pub later_waits : (places : List (Option Reason)) (place at : ℕ) → (nat_le (accepted_from (place + 1) places) at && is_accepted_place places at) ≡ true → (place < at) × (is_accepted_place places at ≡ true)

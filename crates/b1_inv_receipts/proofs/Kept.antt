@@ -28,7 +28,7 @@ use Rattle.b1_model.specs.MachineTook.{is_waiting, as_call, call_of, is_done, an
 use Rattle.b1_model.specs.MachineEvents.{happens, begin_serials, slots_at}
 use Rattle.b1_model.specs.MachineStep.{Step, opening_state, wire_made, wire_counted, wire_held, idle_driver}
 use Rattle.b1_step.specs.Rights.{Has}
-use Rattle.b1_step.proofs.Lists.{has_at}
+use Rattle.b1_step.proofs.Lists.{has_at, has_append}
 use Rattle.b1_step.proofs.Orders.{find_has}
 use Rattle.b1_inv.specs.Words.{IsPeer, IsDriver}
 use Rattle.b1_inv.specs.Receipts.{NamesNode, ReapsNode, IsOfMade, NodesNumbered, NoticesNamed, ReceiptsRight}
@@ -104,14 +104,9 @@ nodes_after o memory d doing action x right = record {
 
 -- ---- calls
 
-has_left : {X : Type 0} (xs ys : List X) (x : X) → Has (xs ++ ys) x → Has xs x ⊎ Has ys x
-has_left [] ys x h = inr h
-has_left (y ∷ xs) ys x (inl same) = inl (inl same)
-has_left (y ∷ xs) ys x (inr h) = elim (has_left xs ys x h) [ inl old ↦ inl (inr old) | inr new ↦ inr new ]
-
 ended_named : (d : DriverPart) (command : Command) (got : Answer) → ((call : Call) → Has d.calls call → NamesNode call.answer) → NamesNode got → NoticesNamed (ended d command got)
 ended_named d command got all names = record {
-  calls = λ call h. elim (has_left d.calls (call_of command got) call h) [ inl old ↦ all call old | inr new ↦ at (is_waiting command got) call new ];
+  calls = λ call h. elim (has_append d.calls (call_of command got) call h) [ inl old ↦ all call old | inr new ↦ at (is_waiting command got) call new ];
   reaping = λ doing is. absurd (cc is);
 }
   where

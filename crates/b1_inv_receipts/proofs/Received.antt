@@ -23,15 +23,12 @@ use Rattle.b1_inv_tools.proofs.Received.{at_cleared}
 use Rattle.b1_inv_refs.proofs.Arrivals.{queue_parts, Cleared, is_cleared}
 use Rattle.b1_inv_refs.proofs.Tables.{at_discards}
 use Rattle.b1_inv_refs.proofs.Flying.{numbers_closed}
+use Rattle.b1_step.proofs.Lists.{has_right, has_within}
 
 abbrev Items : Type 0
 Items = List (Key × Entry)
 
 -- ---- lists
-
-has_right : (xs ys : Items) (f : Key × Entry) → Has ys f → Has (xs ++ ys) f
-has_right [] ys f h = h
-has_right (x ∷ xs) ys f h = inr (has_right xs ys f h)
 
 -- the first one behind those that pass doesn't pass
 first_fails : {X : Type 0} (test : X → Bool) (xs : List X) (f : X) (rest : List X) → drop (length (take_while test xs)) xs ≡ f ∷ rest → test f ≡ false
@@ -42,11 +39,6 @@ first_fails {X} test (y ∷ ys) f rest is =
     at : (drop (length (take_while test ys)) ys ≡ f ∷ rest → test f ≡ false) → (b : Bool) → test y ≡ b → drop (length (cond b (y ∷ take_while test ys) [])) (y ∷ ys) ≡ f ∷ rest → test f ≡ false
     at further true passes same = further same
     at further false fails same = let first : y ≡ f = cc same in ap test (sym first) ∙ fails
-
-get_has : (nodes : List NodePart) (serial : ℕ) → serial < length nodes → Has nodes (get_or nodes serial no_node)
-get_has [] serial within = absurd (omega (arith, within))
-get_has (n ∷ rest) zero within = inl refl
-get_has (n ∷ rest) (suc serial) within = inr (get_has rest serial (omega (arith, within)))
 
 found_has : {X : Type 0} (test : X → Bool) (xs : List X) (x : X) → find test xs ≡ Some x → Has xs x
 found_has test [] x is = absurd (cc is)
@@ -78,7 +70,7 @@ given_even given node handles all held = at (record_of node handles) refl held
     at (Some h) is some = by_number h (found_has (λ k. same_ref k.node node) handles h is) some h.number refl
 
 own_even : (x : PeerPart) → NodesNumbered x → (serial : ℕ) → serial < length x.nodes → (node_at x serial).number % 2 ≡ 0
-own_even x right serial within = let own = right.own (node_at x serial) (get_has x.nodes serial within) in omega (arith, own)
+own_even x right serial within = let own = right.own (node_at x serial) (has_within x.nodes serial no_node within) in omega (arith, own)
 
 -- ---- what a RECV takes
 

@@ -30,7 +30,7 @@ use Rattle.b1_model.specs.MachineCounts.{amount_in, kept_from, peer_amount, owed
 use Rattle.b1_model.specs.MachineStep.{Step}
 use Rattle.b1_step.specs.Rights.{Has}
 use Rattle.b1_step.specs.Ordered.{Rising}
-use Rattle.b1_step.proofs.Lists.{sum_set}
+use Rattle.b1_step.proofs.Lists.{sum_set, has_within}
 use Rattle.b1_step.proofs.Locality.{at_peer, other_peer}
 use Rattle.b1_step.proofs.Orders.{find_has, same_ref_itself}
 use Rattle.b1_inv.specs.Words.{IsMade, is_accepted_place, stamp_of_phase, fixed_stamp}
@@ -46,19 +46,12 @@ use Rattle.b1_inv_refs.proofs.Flying.{peer_flies, peer_slots}
 use Rattle.b1_inv_refs.proofs.Peers.{stage_is_staged, stage_is_message}
 use Rattle.b1_inv_refs.proofs.Goes.{Goes_on, local_goes, begin_goes, recv_goes, destroy_goes, stage_goes, unstage_goes, stamp_goes, sync_goes, visit_goes, doom_goes, sync_notices_goes, own_notices_goes, notices_goes, rest_goes}
 use Rattle.b1_inv_refs.proofs.Moves.{attach_goes, commit_goes, drop_goes, reap_goes, release_goes, flush_goes}
+use Rattle.b1_inv_tools.proofs.Facts.{next_of, next_owed, even_is}
 
 -- ---- small facts of lists
 
-pub has_within : {X : Type 0} (xs : List X) (i : ℕ) (d : X) → i < length xs → Has xs (get_or xs i d)
-has_within [] i d less = absurd (omega (arith, less))
-has_within (x ∷ xs) zero d less = inl refl
-has_within (x ∷ xs) (suc i) d less = inr (has_within xs i d (omega (arith, less)))
-
 pub member_le : {X : Type 0} (f : X → ℕ) (xs : List X) (i : ℕ) (x : X) → slice_get xs i ≡ Some x → f x ≤ sum_by f xs
 member_le f xs i x is = let k = get_or-le-sum_by f xs i x (slice_get_within xs i x is) in let same = ap f (get_or_from_slice_get xs i x x is) in omega (arith, k, same)
-
-odd_even : (n : ℕ) → n % 2 ≡ 0 → is_odd n ≡ false
-odd_even n even = ap (λ m. m == 1) even
 
 -- a place beyond the list, or an accepted one: what is kept from it on
 kept_on : (node : NodeRef) (q : ℕ) (sending : Sending) (place : ℕ) → length sending.slots ≡ length sending.places → (is_accepted_place sending.places place ≡ true) ⊎ (length sending.places ≤ place)
@@ -82,13 +75,6 @@ kept_on node q sending place lists (inr past) =
 
     no_slots : (slots : List (List Slot)) (i : ℕ) → length slots ≤ i → amount_in node (place_references (record sending { slots = slots }) i) ≡ 0
     no_slots slots i less = ap (λ l. slots_amount node sending.begun.with l) (past_end slots i [] less) ∙ slots_none node sending.begun.with
-
--- which event is next
-pub next_of : (e : DriverPart) (doing : Doing) → e.doing ≡ Some doing → e.owed ≡ [] → next_action e ≡ phase_action e.me e.shut doing.command doing.phase
-next_of e doing is none = rw (is, none) refl
-
-pub next_owed : (e : DriverPart) (doing : Doing) (one : OwedDrop) (rest : List OwedDrop) → e.doing ≡ Some doing → e.owed ≡ one ∷ rest → next_action e ≡ act.DropRefs one.node.owner one.node.serial one.holder one.amount one.clock
-next_owed e doing one rest is owed = rw (is, owed) refl
 
 -- the message of a SEND carries its nodes
 carries : (o : Opening) (q : ℕ) (doing : Doing) (k : Key) (e : Entry) → IsMessageOf o q doing k e → carried e ≡ (begun_of doing.phase).with
@@ -146,7 +132,7 @@ module _ {o : Opening} {s : State} {p : ℕ} {command : Option Command} {t : Sta
       stage_origin origin index f passes = eqb-true f.0.origin origin (and_parts (is_data f.1 && is_staged f) (f.0.origin == origin) (and_parts (is_data f.1 && is_staged f && (f.0.origin == origin)) (f.0.index == index) passes).0).1
 
   even_stamp : (stamp : ℕ) → fixed_stamp step.driver ≡ Some stamp → is_odd stamp ≡ false
-  even_stamp stamp is = odd_even stamp (sound.clocks.stamp p step.driver stamp step.is_driver is).0
+  even_stamp stamp is = even_is stamp (sound.clocks.stamp p step.driver stamp step.is_driver is).0
 
   module _ (node : NodeRef) (q : ℕ) where
     abbrev Keeps_on : Command → Phase → List OwedDrop → Action → Type 0

@@ -26,6 +26,7 @@ use Rattle.b1_inv.specs.Numbers.{AreNumbered}
 use Rattle.b1_inv_refs.proofs.Amounts.{Refs, Items}
 use Rattle.b1_inv_refs.proofs.Arrivals.{passes, queue_parts, slots_rest}
 use Rattle.b1_inv_refs.proofs.GivenUp.{found_has, number_is}
+use Rattle.b1_step.proofs.Lists.{has_append, has_left, has_right}
 
 module _ (R : NodeRef × ℕ → Type 0) where
   abbrev pub EachRef : Refs → Type 0
@@ -33,11 +34,6 @@ module _ (R : NodeRef × ℕ → Type 0) where
 
   abbrev pub EachDead : List Refs → Type 0
   EachDead dead = (item : Refs) → Has dead item → EachRef item
-
-  pub has_append : {X : Type 0} (xs ys : List X) (x : X) → Has (xs ++ ys) x → Has xs x ⊎ Has ys x
-  has_append [] ys x h = inr h
-  has_append (y ∷ xs) ys x (inl same) = inl (inl same)
-  has_append (y ∷ xs) ys x (inr h) = elim (has_append xs ys x h) [ inl left ↦ inl (inr left) | inr right ↦ inr right ]
 
   each_item : (refs : Refs) (dead : List Refs) → EachRef refs → EachDead dead → EachDead (with_item refs dead)
   each_item [] dead new each = each
@@ -94,15 +90,6 @@ module _ (R : NodeRef × ℕ → Type 0) where
   all_discards : (q : ℕ) (es : Items) (x : PeerPart) → ((f : Key × Entry) → Has es f → (is_staged f ≡ false) × Right q f) → EachDead x.dead → EachDead (fold (λ y f. discarded y f.1) x es).dead
   all_discards q [] x rights each = each
   all_discards q (f ∷ rest) x rights each = all_discards q rest (discarded x f.1) (λ g h. rights g (inr h)) (one_discard q f x (rights f (inl refl)).0 (rights f (inl refl)).1 each)
-
-  has_left : (xs ys : Items) (f : Key × Entry) → Has xs f → Has (xs ++ ys) f
-  has_left [] ys f h = absurd h
-  has_left (x ∷ xs) ys f (inl same) = inl same
-  has_left (x ∷ xs) ys f (inr h) = inr (has_left xs ys f h)
-
-  has_right : (xs ys : Items) (f : Key × Entry) → Has ys f → Has (xs ++ ys) f
-  has_right [] ys f h = h
-  has_right (x ∷ xs) ys f h = inr (has_right xs ys f h)
 
   module _ (q : ℕ) (x : PeerPart) (rights : (f : Key × Entry) → Has x.queue f → Right q f) (each : EachDead x.dead) where
     cleared_dead : EachDead (cleared x).dead

@@ -13,7 +13,7 @@ use Rattle.b1_model.specs.MachineTables.{foreign, more_flight, less_flight, more
 use Rattle.b1_model.specs.MachineEvents.{begun_of}
 use Rattle.b1_model.specs.MachineStep.{Step}
 use Rattle.b1_step.specs.Rights.{Has}
-use Rattle.b1_step.proofs.Lists.{filter_has}
+use Rattle.b1_step.proofs.Lists.{filter_has, has_all}
 use Rattle.b1_inv.specs.Words.{IsPeer, IsMade}
 use Rattle.b1_inv.specs.Sends.{SendShape}
 use Rattle.b1_inv.specs.Numbers.{AreNumbered, NumbersRight}
@@ -48,12 +48,6 @@ nodes_closed Q = record {
   released = λ g m hs t. each_changed (λ h. Q h.node) m less_held (λ h q. q) hs t;
   come = λ g m hs t. each_changed (λ h. Q h.node) m (λ r. more_held (next_number g) (less_flight r)) (λ h q. q) hs t;
 }
-
--- an element of a list is one of all
-pub has_all : {X : Type 0} (P : X → Type 0) (xs : List X) (x : X) → All P xs → Has xs x → P x
-has_all P [] x all there = absurd there
-has_all P (y ∷ ys) x all (inl same) = subst P (sym same) (all zero y (omega arith))
-has_all P (y ∷ ys) x all (inr there) = has_all P ys x (λ k d less. all (suc k) d (omega (arith, less))) there
 
 -- the nodes that an open SEND carries were made
 pub carries_made : (s : State) (command : Command) (phase : Phase) → (phase ≡ Starting → ⊥) → SendShape s command phase → (n : NodeRef) → Has (begun_of phase).with n → IsMade s n

@@ -14,7 +14,7 @@ use Rattle.b1_model.specs.MachineTables.{serial_of, with_node, counted, changed_
 use Rattle.b1_model.specs.MachineStep.{no_peer, with_part, wire_counted, wire_held}
 use Rattle.b1_step.specs.Rights.{Has}
 use Rattle.b1_step.specs.Ordered.{Rising}
-use Rattle.b1_step.proofs.Lists.{has_at, has_filter, filter_has}
+use Rattle.b1_step.proofs.Lists.{has_at, has_filter, filter_has, has_within}
 use Rattle.b1_step.proofs.Orders.{same_ref_is}
 use Rattle.b1_step.proofs.Lookups.{rising_made}
 use Rattle.b1_inv.specs.Numbers.{AreNumbered}
@@ -23,7 +23,6 @@ use Rattle.b1_inv_refs.proofs.Arrivals.{held_in}
 use Rattle.b1_inv_refs.proofs.Numbered.{EachRecord, each_made, given_then}
 use Rattle.b1_inv_refs.proofs.GivenUp.{held_of, found_has}
 use Rattle.b1_inv_refs.proofs.Counts.{counted_one}
-use Rattle.b1_inv_refs.proofs.Counting.{has_within}
 use Rattle.b1_inv_refs.proofs.Widths.{IsWide, EachNode, wide_counted}
 use Rattle.b1_inv_refs.proofs.Places.{one_number, serial_within, serial_counted, part_there}
 use Rattle.b1_inv_refs.proofs.SameWires.{symmetric, turned, any_has, any_none, has_place, filter_more, more_at, within_at, same_wire, is_same_wire}

@@ -18,6 +18,7 @@ use Rattle.b1_inv.specs.References.{AreFilled, times_in, carried_times}
 use Rattle.b1_inv_refs.proofs.Amounts.{Items, dead_with_item, entry_amount, notice_none, queue_cons, slots_amount}
 use Rattle.b1_inv_refs.proofs.Views.{held_same, flight_same}
 use Rattle.b1_inv_refs.proofs.Arrivals.{held_in, flight_in, InFlight, slots_rest, slots_rising, slots_flight, slots_held, carried_cons, queue_parts, Cleared, is_cleared}
+use Rattle.b1_step.proofs.Lists.{has_right}
 
 -- an update leaves what a view sees that it keeps
 pub read_view : {X Y : Type 0} (view : X → Y) (xs : List X) (i j : ℕ) (y d : X) → view y ≡ view (get_or xs i d) → view (get_or (set xs i y) j d) ≡ view (get_or xs j d)
@@ -46,10 +47,6 @@ pub record Receives (x y : PeerPart) : Type 0 where
   pub counts : SameCounts x y
   pub flies : (node : NodeRef) → node.owner ≢ x.me → flight_in node y.handles ≡ carried_times node y.queue
   pub amount : (node : NodeRef) → peer_amount node x ≡ peer_amount node y
-
-has_right : (xs ys : Items) (f : Key × Entry) → Has ys f → Has (xs ++ ys) f
-has_right [] ys f h = h
-has_right (x ∷ xs) ys f h = inr (has_right xs ys f h)
 
 module _ (x : PeerPart) (up : Rising x.handles) (flies : Flies x) (slots : HasSlots x) where
   k : Cleared x

@@ -38,11 +38,12 @@ use Rattle.b1_inv_tools.proofs.Leaves.{Did, step_did, driver_cases, peer_cases}
 use Rattle.b1_inv_tools.proofs.Grows.{made_stays}
 use Rattle.b1_inv_refs.proofs.Amounts.{Refs}
 use Rattle.b1_inv_refs.proofs.GivenUp.{held_found}
-use Rattle.b1_inv_refs.proofs.Flying.{has_all}
-use Rattle.b1_inv_refs.proofs.Counting.{next_of, next_owed, is_open, shape, counts_kept, below}
+use Rattle.b1_inv_refs.proofs.Counting.{is_open, shape, counts_kept, below}
 use Rattle.b1_inv_refs.proofs.Widths.{wide_after}
 use Rattle.b1_inv_refs.proofs.DeadLists.{Right, dead_after}
 use Rattle.b1_inv_refs.proofs.Owing.{New, owed_has, drops_has, Owing, OwingThen, turned_owed, turned_owing, phase_then, drop_stays}
+use Rattle.b1_inv_tools.proofs.Facts.{next_of, next_owed}
+use Rattle.b1_step.proofs.Lists.{has_all}
 
 -- a reference of an attached slot is to the node of its handle
 slot_at : (nodes : List NodeRef) (slots : List Slot) (r : NodeRef × ℕ) → Has (filter_map reference_of (zip nodes slots)) r → (j : ℕ) × (j < length nodes) × (r ≡ (get_or nodes j no_ref, 1)) × (get_or slots j slot.Unattached ≡ slot.Attached)

@@ -18,13 +18,6 @@ use Rattle.b1_step.specs.Rights.{Has}
 use Rattle.b1_step.proofs.Queues.{put_has}
 use Rattle.b1_inv_tools.proofs.Comes.{staged_message, Comes, leaves, queue_comes}
 
--- without an owed drop the event of the phase is next, else the drop
-pub next_of : (e : DriverPart) (doing : Doing) → e.doing ≡ Some doing → e.owed ≡ [] → next_action e ≡ phase_action e.me e.shut doing.command doing.phase
-next_of e doing is none = rw (is, none) refl
-
-pub next_owed : (e : DriverPart) (doing : Doing) (one : OwedDrop) (rest : List OwedDrop) → e.doing ≡ Some doing → e.owed ≡ one ∷ rest → next_action e ≡ act.DropRefs one.node.owner one.node.serial one.holder one.amount one.clock
-next_owed e doing one rest is owed = rw (is, owed) refl
-
 -- a stage answers its clock
 abbrev pub Answers : Opening → Bool → DriverPart → Doing → PeerPart → Action → Type 0
 Answers o memory d doing x (act.Stage peer place) = (happens o memory d doing (act.Stage peer place) x).0 ≡ out.Stage (Ok x.clock)

@@ -17,10 +17,10 @@ use Rattle.b1_inv.specs.Sends.{SendShape, SendsRight}
 use Rattle.b1_inv.specs.References.{ReferencesRight}
 use Rattle.b1_inv.specs.Sound.{IsSound}
 use Rattle.b1_inv_tools.proofs.Leaves.{Did, step_did, driver_cases, new_peer, turned_open}
-use Rattle.b1_inv_sends.proofs.Events.{next_of, next_owed}
 use Rattle.b1_inv_tools.proofs.Grows.{made_stays}
 use Rattle.b1_inv_tools.proofs.Openings.{opening_idle}
 use Rattle.b1_inv_sends.proofs.Shapes.{TurnRight, shape_stays, event_right, drop_right, start_right}
+use Rattle.b1_inv_tools.proofs.Facts.{next_of, next_owed}
 
 -- when a bus begins no command is open
 pub opening_sends : (o : Opening) → SendsRight (opening_state o)

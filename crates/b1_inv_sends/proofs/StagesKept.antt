@@ -30,11 +30,12 @@ use Rattle.b1_inv.specs.Stages.{IsMessageOf, HasSender, OnceEach, StagesRight}
 use Rattle.b1_inv.specs.Sound.{IsSound}
 use Rattle.b1_inv_sends.proofs.Places.{accepted_past}
 use Rattle.b1_inv_tools.proofs.Leaves.{Did, step_did, peer_cases, new_driver, same_driver}
-use Rattle.b1_inv_sends.proofs.Events.{next_of, next_owed, Answers, was_or_comes}
+use Rattle.b1_inv_sends.proofs.Events.{Answers, was_or_comes}
 use Rattle.b1_inv_tools.proofs.Comes.{Comes}
 use Rattle.b1_inv_tools.proofs.Openings.{opening_each}
 use Rattle.b1_inv_sends.proofs.Once.{stage_parts, notice_is, Fresh, event_once}
 use Rattle.b1_inv_sends.proofs.Waits.{WaitsOn, stops, new_waits, event_waits, drop_waits, Waiting, turn_waits, stops_at, stopped_leaves}
+use Rattle.b1_inv_tools.proofs.Facts.{next_of, next_owed}
 
 -- ---- the opening
 

@@ -3,3 +3,4 @@ pub mod Received
 pub mod Grows
 pub mod Comes
 pub mod Openings
+pub mod Facts

@@ -29,9 +29,9 @@ use Rattle.b1_model.specs.MachineDriver.{send_of, refused_at, first_action, next
 use Rattle.b1_model.specs.MachineTook.{is_await}
 use Rattle.b1_model.specs.MachineEvents.{happens, begin_by, destroy_by, begin_refusal, begin_serials, local_answer, number_of}
 use Rattle.b1_inv.specs.Notices.{IsDestroying}
-use Rattle.b1_inv_sends.proofs.Events.{next_of, next_owed}
 use Rattle.b1_play_commands.specs.Following.{EndsWell, PhaseFits, TurnFits}
 use Rattle.b1_play_commands.proofs.Phases.{refused_well, visiting_fits}
+use Rattle.b1_inv_tools.proofs.Facts.{next_of, next_owed, destroy_waits}
 
 -- ---- a NODES_DESTROY that isn't refused dooms some node
 
@@ -61,18 +61,12 @@ some_doomed x (n ∷ rest) taken none =
 
 -- ---- by the first event
 
-destroying_plain : (command : Command) → IsDestroying command → is_await command ≡ false
-destroying_plain (cmd.Destroy numbers) k = refl
-destroying_plain (cmd.Reset limits) k = refl
-destroying_plain cmd.Disconnect k = refl
-destroying_plain command k = absurd k
-
 doomed_fit : (command : Command) (doomed visit : List ℕ) → IsDestroying command → (doomed ≡ [] → is_flushing command ≡ true) → PhaseFits command (destroying doomed visit)
 doomed_fit command [] visit k flushes = flushes refl
 doomed_fit command (serial ∷ rest) visit k flushes = visiting_fits command (record { doomed = serial ∷ rest; collected = 0; staged = [] }) visit k
 
 destroy_fits : (shut : Bool) (command : Command) (r : Option Reason) (doomed : List ℕ) (x : PeerPart) → IsDestroying command → (r ≡ None → doomed ≡ [] → is_flushing command ≡ true) → TurnFits shut command (started command (destroy_by r doomed x).0)
-destroy_fits shut command (Some r) doomed x k flushes = refused_well shut command (destroying_plain command k) (record { reason = r; place = None })
+destroy_fits shut command (Some r) doomed x k flushes = refused_well shut command (destroy_waits command k) (record { reason = r; place = None })
 destroy_fits shut command None doomed x k flushes = doomed_fit command doomed _ k (flushes refl)
 
 begin_fits : (shut : Bool) (c : SendCmd) (r : Option Reason) (memory : Bool) (other : SendCmd) (x : PeerPart) → TurnFits shut (cmd.Send c) (started (cmd.Send c) (begin_by r memory other x).0)

@@ -24,6 +24,7 @@ use Rattle.b1_play_commands.specs.Following.{AllInPlace, asked, TurnFits, Follow
 use Rattle.b1_play_commands.proofs.Phases.{event_fits}
 use Rattle.b1_play_commands.proofs.Starts.{start_fits}
 use Rattle.b1_play_commands.proofs.Calls.{turned_follows}
+use Rattle.b1_inv_tools.proofs.Facts.{more_calls}
 
 -- a command may begin: it is the one that is next, and behind the last one the driver isn't shut
 pub record MayBegin (commands : List Command) (d : DriverPart) (c : Command) : Type 0 where
@@ -85,10 +86,6 @@ past_end (x ∷ xs) (suc i) none = omega (arith, past_end xs i none)
 pub still_past : {X : Type 0} (xs : List X) (i j : ℕ) → i ≤ j → slice_get xs i ≡ None → slice_get xs j ≡ None
 still_past xs i j less none = slice_get_past xs j (omega (arith, less, past_end xs i none))
 
-no_shorter : (old new : List Call) → AtMostOneMore old new → length old ≤ length new
-no_shorter old new (inl same) = let e = ap length same in omega (arith, e)
-no_shorter old new (inr (c, same)) = let e = ap length same in let more = length-append old (c ∷ []) in omega (arith, e, more)
-
 module _ {o : Opening} {s : State} {p : ℕ} {command : Option Command} {t : State} (step : Step o s p command t) (lists : List (List Command)) where
   pub all_end : AllEnd lists s → AllEnd lists t
   all_end ended r d is = at (driver_cases step r d is)
@@ -97,5 +94,5 @@ module _ {o : Opening} {s : State} {p : ℕ} {command : Option Command} {t : Sta
       at (inl here) =
           subst (λ q. next_command lists q d ≡ None) (sym here.0)
           (subst (λ e. next_command lists p e ≡ None) (sym here.1)
-          (still_past (commands_of lists p) (length step.driver.calls) (length step.new_driver.calls) (no_shorter step.driver.calls step.new_driver.calls (step_grows step).calls) (ended p step.driver step.is_driver)))
+          (still_past (commands_of lists p) (length step.driver.calls) (length step.new_driver.calls) (more_calls step.driver.calls step.new_driver.calls (step_grows step).calls) (ended p step.driver step.is_driver)))
       at (inr other) = ended r d other.1

@@ -30,11 +30,11 @@ use Rattle.b1_model.specs.MachineReceive.{received, received_part, has_dead, rea
 use Rattle.b1_model.specs.MachineDestroy.{flushed}
 use Rattle.b1_step.specs.Rights.{Changes}
 use Rattle.b1_step.proofs.Changed.{changes}
-use Rattle.b1_inv_sends.proofs.Events.{next_of, next_owed}
 use Rattle.b1_schedule.specs.Schedule.{removed_by}
 use Rattle.b1_play_end.specs.Course.{PhaseTold, OpenTold}
 use Rattle.b1_play_end.proofs.Told.{IsPlain, spared_told, reaping_told, turn_spares}
 use Rattle.b1_play_end.proofs.Attempts.{removed_some}
+use Rattle.b1_inv_tools.proofs.Facts.{next_of, next_owed}
 
 -- events that leave the dead list
 abbrev pub spares_dead : Action → Bool

@@ -16,7 +16,6 @@ use Rattle.b1_step.proofs.Steps.{step_of}
 use Rattle.b1_inv.specs.Words.{IsPeer, IsDriver}
 use Rattle.b1_inv.specs.Sound.{IsSound}
 use Rattle.b1_inv_tools.proofs.Leaves.{new_driver}
-use Rattle.b1_inv_sends.proofs.Events.{next_of}
 use Rattle.b1_inv_sends.proofs.SendsKept.{nothing_owed}
 use Rattle.b1_law.proofs.Reached.{step_sound}
 use Rattle.b1_schedule.specs.Shortage.{Shortage, is_short}
@@ -25,6 +24,7 @@ use Rattle.b1_play_end.specs.Course.{OwnersThere, TryingBy, IsTrying, AllTold, I
 use Rattle.b1_play_end.proofs.Holds.{peer_there, driver_there, told_kept, same_part}
 use Rattle.b1_play_end.proofs.Rounds.{round_goes, drain_goes}
 use Rattle.b1_play_end.proofs.Owners.{owners_kept}
+use Rattle.b1_inv_tools.proofs.Facts.{next_of}
 
 -- what is kept
 pub record Kept (lists : List (List Command)) (o : Opening) (at : Playing) : Type 0 where

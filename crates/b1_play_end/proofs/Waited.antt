@@ -21,10 +21,10 @@ use Rattle.b1_model.specs.MachineDriver.{turn, first_action, phase_action, next_
 use Rattle.b1_model.specs.MachineTook.{attempt_of, is_await, is_waiting, with_facts}
 use Rattle.b1_model.specs.MachineEvents.{happens, local_answer}
 use Rattle.b1_model.specs.MachineReceive.{discards, received, received_part, has_dead}
-use Rattle.b1_inv_sends.proofs.Events.{next_of, next_owed}
 use Rattle.b1_schedule.specs.Schedule.{removed_by}
 use Rattle.b1_play_end.proofs.Knows.{attempt_removed}
 use Rattle.b1_play_end.proofs.Waits.{EndsBy, IsAttempt}
+use Rattle.b1_inv_tools.proofs.Facts.{next_of, next_owed}
 
 await_is : (command : Command) → is_await command ≡ true → command ≡ cmd.Await
 await_is cmd.Await is = refl

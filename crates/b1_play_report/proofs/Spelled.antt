@@ -18,7 +18,7 @@ use Rattle.b1_model.specs.MachineParts.{PeerPart, DriverPart}
 use Rattle.b1_model.specs.MachineTook.{is_waiting, as_call, call_of, answer_of, fixed_call, open_by, driver_calls}
 use Rattle.b1_model.specs.MachineStep.{peer_records, record_of_state}
 use Rattle.b1_step.specs.Rights.{Has}
-use Rattle.b1_step.proofs.Lists.{has_at}
+use Rattle.b1_step.proofs.Lists.{has_at, has_append}
 use Rattle.b1_inv.specs.Receipts.{NamesNode, NoticesNamed}
 use Rattle.b1_inv_receipts.proofs.Turns.{fixed_names}
 use Rattle.b1_law.proofs.Reached.{reached_sound}
@@ -101,11 +101,6 @@ call_has command got call h names = at (is_waiting command got) h
     at false (inl same) = subst (λ c. NamesNode c.answer) (sym same) names
     at false (inr h) = absurd h
 
-has_left : {X : Type 0} (xs ys : List X) (x : X) → Has (xs ++ ys) x → Has xs x ⊎ Has ys x
-has_left [] ys x h = inr h
-has_left (y ∷ xs) ys x (inl same) = inl (inl same)
-has_left (y ∷ xs) ys x (inr h) = elim (has_left xs ys x h) [ inl old ↦ inl (inr old) | inr new ↦ inr new ]
-
 module _ (d : DriverPart) (named : NoticesNamed d) where
   open_names : (doing : Option Doing) → d.doing ≡ doing → (call : Call) → Has (open_by doing) call → NamesNode call.answer
   open_names None is call h = absurd h
@@ -116,7 +111,7 @@ module _ (d : DriverPart) (named : NoticesNamed d) where
       at (Some got) same h = call_has doing.command got call h (fixed_names doing.command doing.phase got (named.reaping doing is) same)
 
   calls_name : (call : Call) → Has (driver_calls d) call → NamesNode call.answer
-  calls_name call h = elim (has_left d.calls (open_by d.doing) call h) [ inl old ↦ named.calls call old | inr new ↦ open_names d.doing refl call new ]
+  calls_name call h = elim (has_append d.calls (open_by d.doing) call h) [ inl old ↦ named.calls call old | inr new ↦ open_names d.doing refl call new ]
 
   -- the calls that stand in a record for the driver
   calls_spelled : (commands : List Command) → AllByRecursion IsNotLimit commands → Follows commands d → All IsSpelled (driver_calls d)

@@ -16,10 +16,10 @@ use Rattle.b1_inv.specs.Words.{IsPeer}
 use Rattle.b1_inv.specs.Sends.{SendShape, SendsRight}
 use Rattle.b1_inv.specs.Notices.{DestructionShape, NoticesRight}
 use Rattle.b1_inv_tools.proofs.Leaves.{Did, step_did, new_peer, same_peer}
-use Rattle.b1_inv_sends.proofs.Events.{next_of, next_owed}
 use Rattle.b1_progress.specs.Work.{work, kept_weight, phase_weight}
 use Rattle.b1_progress.proofs.Phases.{left_of, turned_falls}
 use Rattle.b1_progress.proofs.Left.{OwnPart, Lessens, stage_lessens, unstage_lessens, attach_lessens, stamp_lessens, sync_lessens, commit_lessens, flush_lessens, visit_lessens, doom_lessens, notice_sync_lessens, own_notices_lessen, notices_lessen, reap_lessens, drop_lessens}
+use Rattle.b1_inv_tools.proofs.Facts.{next_of, next_owed}
 
 module _ (o : Opening) (memory : Bool) (s : State) (e : DriverPart) (doing : Doing) (x before after : PeerPart) (mine : before.me ≡ e.me) (sends : SendShape s doing.command doing.phase) (notices : DestructionShape before.peers before doing.command doing.phase) where
   abbrev OwnAt : Action → Type 0

@@ -14,6 +14,7 @@ use Rattle.b1_model.specs.MachineDriver.{Turn, Goes, Ends, next_accepted, accept
 use Rattle.b1_model.specs.MachineTook.{is_done}
 use Rattle.b1_inv.specs.Words.{is_accepted_place}
 use Rattle.b1_progress.specs.Work.{phase_weight, commit_weight, sync_weight, stamp_weight, attach_weight, stage_weight}
+use Rattle.b1_inv_tools.proofs.Facts.{accepted_within}
 
 -- after a turn to a phase that isn't done there, less is left than the bound; an end leaves nothing
 abbrev pub Falls : Turn → List OwedDrop → Bool → ℕ → ℕ → ℕ → Type 0
@@ -44,12 +45,6 @@ behind_all : (here from : ℕ) (places : List (Option Reason)) → here + length
 behind_all here from [] past = omega arith
 behind_all here from (None ∷ rest) past = let ih = behind_all (here + 1) from rest (omega (arith, past)) in grind (arith, ih, past)
 behind_all here from (Some r ∷ rest) past = omega (arith, behind_all (here + 1) from rest (omega (arith, past)))
-
--- an accepted place is one of the places
-pub accepted_within : (places : List (Option Reason)) (place : ℕ) → is_accepted_place places place ≡ true → place < length places
-accepted_within [] place is = absurd (cc is)
-accepted_within (x ∷ rest) zero is = omega arith
-accepted_within (x ∷ rest) (suc place) is = omega (arith, accepted_within rest place is)
 
 -- ---- numbers of a SEND's phases
 

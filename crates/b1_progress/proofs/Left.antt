@@ -29,7 +29,8 @@ use Rattle.b1_inv.specs.Notices.{DestructionShape}
 use Rattle.b1_progress.specs.Work.{kept_weight, phase_weight, queue_weight, handles_weight, dead_weight}
 use Rattle.b1_progress.proofs.Weights.{filter_map_length, zip_length}
 use Rattle.b1_progress.proofs.Kept.{stage_kept, unstage_kept, attach_kept, commit_kept, notices_kept, drop_kept, doom_kept, flush_kept}
-use Rattle.b1_progress.proofs.Falls.{Falls, accepted_within, attach_goes, stage_goes, unstage_goes, stamp_goes, sync_goes, commit_goes, commit_ends}
+use Rattle.b1_inv_tools.proofs.Facts.{accepted_within}
+use Rattle.b1_progress.proofs.Falls.{Falls, attach_goes, stage_goes, unstage_goes, stamp_goes, sync_goes, commit_goes, commit_ends}
 use Rattle.b1_progress.proofs.Others.{visit_goes, late_goes, doom_goes, notice_sync_goes, notices_go, flush_goes, drop_goes, drops_length}
 use Rattle.b1_progress.proofs.Phases.{own_kept, own_late}
 

@@ -1,10 +1,12 @@
 -- Lists that change at one index, sums over them, and elements of lists.
-use Rattle.std.proofs.Common.{◌≡◌, ◌≢◌, ◌⊎◌, refl, ap, ◌∙◌, inl, inr, ℕ, zero, suc, ◌+◌, Bool, true, false, cond, List, [], ◌∷◌, get_or, set, map, filter, sum_by, Some}
+use Rattle.std.proofs.Common.{◌≡◌, ◌≢◌, ◌⊎◌, refl, sym, ap, ◌∙◌, inl, inr, subst, ℕ, zero, suc, ◌+◌, ◌<◌, Bool, true, false, cond, List, [], ◌∷◌, ◌++◌, length, get_or, set, map, filter, sum_by, Some}
 use Rattle.std.specs.Prelude.{slice_get}
 use Rattle.std.proofs.lemmas.Option.{slice_get_within, get_or_from_slice_get}
 use Rattle.std.proofs.lemmas.List.Sums.{sum_by-set}
 use native.Mathlib.Omega.{arith}
 use Rattle.b1_step.specs.Rights.{Has}
+use Rattle.std.specs.List.{All}
+use Rattle.std.proofs.lemmas.List.Elements.{All-nil, All-cons}
 
 module _ {X : Type 0} where
   -- an update read at the same index, and at another one
@@ -68,3 +70,34 @@ module _ {X : Type 0} where
   has_map f [] y h = absurd h
   has_map f (x ∷ xs) y (inl same) = (x, inl refl, same)
   has_map f (x ∷ xs) y (inr further) = let found = has_map f xs y further in (found.0, inr found.1, found.2)
+
+  -- an element of two lists
+  pub has_append : (xs ys : List X) (x : X) → Has (xs ++ ys) x → Has xs x ⊎ Has ys x
+  has_append [] ys x h = inr h
+  has_append (y ∷ xs) ys x (inl same) = inl (inl same)
+  has_append (y ∷ xs) ys x (inr h) = elim (has_append xs ys x h) [ inl left ↦ inl (inr left) | inr right ↦ inr right ]
+
+  pub has_left : (xs ys : List X) (x : X) → Has xs x → Has (xs ++ ys) x
+  has_left [] ys x h = absurd h
+  has_left (y ∷ xs) ys x (inl same) = inl same
+  has_left (y ∷ xs) ys x (inr h) = inr (has_left xs ys x h)
+
+  pub has_right : (xs ys : List X) (x : X) → Has ys x → Has (xs ++ ys) x
+  has_right [] ys x h = h
+  has_right (y ∷ xs) ys x h = inr (has_right xs ys x h)
+
+  -- what stands at an index is an element
+  pub has_within : (xs : List X) (i : ℕ) (d : X) → i < length xs → Has xs (get_or xs i d)
+  has_within [] i d less = absurd (omega (arith, less))
+  has_within (x ∷ xs) zero d less = inl refl
+  has_within (x ∷ xs) (suc i) d less = inr (has_within xs i d (omega (arith, less)))
+
+  -- a fact of all elements
+  pub has_all : (P : X → Type 0) (xs : List X) (x : X) → All P xs → Has xs x → P x
+  has_all P [] x all there = absurd there
+  has_all P (y ∷ ys) x all (inl same) = subst P (sym same) (all zero y (omega arith))
+  has_all P (y ∷ ys) x all (inr there) = has_all P ys x (λ k d less. all (suc k) d (omega (arith, less))) there
+
+  pub all_has : (P : X → Type 0) (xs : List X) → ((x : X) → Has xs x → P x) → All P xs
+  all_has P [] holds = All-nil P
+  all_has P (x ∷ xs) holds = All-cons P x xs (holds x (inl refl)) (all_has P xs (λ y h. holds y (inr h)))
