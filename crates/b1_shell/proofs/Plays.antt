@@ -1,15 +1,41 @@
--- The record of a small script is the serial bus's.
-use Rattle.std.proofs.Common.{◌≡◌, subst, inl, inr, List, []}
+-- Scripts that files have set limits by no command alone; the record of a small script is the serial bus's.
+use Rattle.std.proofs.Common.{◌≡◌, subst, inl, inr, List, [], ◌∷◌}
+use Rattle.std.specs.List.{AllByRecursion}
 use Rattle.b1_model.specs.declared.commands.Command.{Command}
+use Rattle.b1_model.specs.declared.commands.Command.TheVariants as cmd
 use Rattle.b1_model.specs.declared.naming.Opening.{Opening}
 use Rattle.b1_model.specs.declared.records.Record.{Record}
 use Rattle.b1_model.specs.Legal.{Legal, Whole}
+use Rattle.b1_play_report.specs.Limits.{IsNotLimit, NoLimits}
+use Rattle.b1_records.specs.Spelling.{IsWithin}
 use Rattle.b1_schedule.specs.Schedule.{IsPlay}
 use Rattle.b1_script.specs.declared.script.Script.{Script}
 use Rattle.b1_schedule.specs.Shortage.{shortage_of}
 use Rattle.b1_serial.specs.Serial.{serial, IsPlayable}
 use Rattle.b1_small.specs.Quotas.{IsLight, IsWithinQuotas, MeetsNoQuota}
 use Rattle.b1_shell.specs.Plays.{IsSmall, IsSerial}
+
+-- the commands of a script that a file has
+no_limit : (command : Command) → IsWithin command → IsNotLimit command
+no_limit (cmd.Limit limits) within = within
+no_limit cmd.Disconnect within = tt
+no_limit cmd.Query within = tt
+no_limit (cmd.Reset limits) within = tt
+no_limit (cmd.Release number) within = tt
+no_limit (cmd.Destroy numbers) within = tt
+no_limit (cmd.SliceRelease offset) within = tt
+no_limit (cmd.Send send) within = tt
+no_limit cmd.Recv within = tt
+no_limit cmd.Await within = tt
+
+no_limits_in : (commands : List Command) → AllByRecursion IsWithin commands → AllByRecursion IsNotLimit commands
+no_limits_in [] within = tt
+no_limits_in (c ∷ cs) within = (no_limit c within.0, no_limits_in cs within.1)
+
+-- are none that set limits alone
+pub no_limits : (lists : List (List Command)) → AllByRecursion (AllByRecursion IsWithin) lists → NoLimits lists
+no_limits [] within = tt
+no_limits (commands ∷ rest) within = (no_limits_in commands within.0, no_limits rest within.1)
 
 -- what a law says of the plays of small scripts that meet a premise on quotas
 abbrev Says : (Opening → List (List Command) → Record → Type 0) → (Opening → List (List Command) → Record → Type 0) → Type 0

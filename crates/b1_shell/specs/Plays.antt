@@ -1,5 +1,5 @@
 -- What `play` writes of a script.
-use Rattle.std.specs.Prelude.{◌≡◌, ℕ, List, [], ◌++◌}
+use Rattle.std.specs.Prelude.{◌≡◌, ℕ, List, [], ◌++◌, length}
 use Rattle.b1_play_commands.specs.Following.{AllInPlace}
 use Rattle.b1_model.specs.declared.records.Record.{Record}
 use Rattle.b1_model.specs.Legal.{Legal, Whole}
@@ -7,6 +7,7 @@ use Rattle.b1_model.specs.MachineOrder.{DrainedOf, Stuck}
 use Rattle.b1_model.specs.Names.{calls_of}
 use Rattle.b1_model.specs.Script as follows
 use Rattle.b1_report.specs.Report.{report_text}
+use Rattle.b1_report.specs.Parsing as reports
 use Rattle.b1_schedule.specs.Schedule.{IsPlay, IsStall}
 use Rattle.b1_script.specs.declared.script.Script.{Script}
 use Rattle.b1_schedule.specs.Shortage.{shortage_of}
@@ -25,8 +26,8 @@ pub record IsSerial (s : Script) (outcome : Record) : Type 0 where
   pub legal : Legal s.opening outcome
   pub whole : Whole s.opening outcome
 
--- the text is the report of what the script's schedule ends with, in a drained state; each peer's calls are its commands;
--- of a small script that no quota refuses it is the serial bus's record
+-- the text is the report of what the script's schedule ends with, in a drained state, and is read again as that; each peer's
+-- calls are its commands; of a small script that no quota refuses it is the serial bus's record
 pub record IsReport (s : Script) (text : List ℕ) : Type 0 where
   pub outcome : Record
   pub played : IsPlay s.opening s.commands s.turns outcome
@@ -34,6 +35,7 @@ pub record IsReport (s : Script) (text : List ℕ) : Type 0 where
   pub script : follows.Script s.opening s.commands outcome
   pub small : IsSmall s → MeetsNoQuota s.opening s.commands outcome → IsSerial s outcome
   pub text_is : text ≡ report_text outcome
+  pub again : reports.HasRecordFields outcome → reports.IsReport (length outcome.peers) text outcome
 
 -- the text tells that the script's schedule stalls where memory is wanting nowhere: which peers wait in the stuck state,
 -- and its report, in which each peer's calls are the first of its commands

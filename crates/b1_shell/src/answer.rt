@@ -16,6 +16,7 @@ use b1_errs::NotRead;
 use b1_play_commands::what_is_played_is_scripted;
 use b1_law::every_reached_state_is_sound;
 use b1_play::{Played, play};
+use b1_play_report::what_is_played_is_spelled;
 use b1_report::print;
 use b1_script::{Script, read_whole};
 use b1_small::{small_records_are_legal, small_scripts_run_serially};
@@ -30,6 +31,7 @@ fn answer_script(alloc: Global, script: &Script) -> Result<(Said, Vec<u8>), Allo
     what_is_played_is_scripted();
     a_finished_play_is_drained();
     a_stalled_play_is_stuck();
+    what_is_played_is_spelled();
     small_scripts_run_serially();
     small_records_are_legal();
     match play(alloc, script)? {

@@ -1,7 +1,7 @@
 // What is written of a script that stalls.
 ghost use Rattle.std.specs.Prelude.{◌≡◌, ◌++◌, IfOk, OnOk, string_bytes};
 ghost use Rattle.std.specs.Fmt.{decimal};
-ghost use Rattle.b1_report.specs.Report.{report_text};
+ghost use Rattle.b1_report.specs.Report.{report_text, EachSpelled};
 ghost use Rattle.b1_text_words.specs.Numbers.{list_text};
 ghost use Rattle.b1_shell.specs.Texts as texts;
 
@@ -16,6 +16,7 @@ pub fn stall_report(
     waiting: &Nums32,
     reached: &Record,
 ) -> Result<Vec<u8>, AllocError>
+    requires { EachSpelled reached.now.peers }
     ensures { IfOk result (λ text. text.items ≡ texts.stalled_line waiting.now ++ report_text reached.now) }
 {
     let mut text = stalled_line(alloc, waiting.as_slice())?;
