@@ -1,11 +1,12 @@
 -- The calls of a played script have lines of their own.
-use Rattle.std.proofs.Common.{◌≡◌, ◌⊎◌, refl, sym, ap, ◌∙◌, inl, inr, subst, ℕ, zero, suc, Bool, true, false, cond, List, [], ◌∷◌, ◌++◌, take, slice_get, Option, Some, None}
+use Rattle.std.proofs.Common.{◌≡◌, refl, sym, ap, ◌∙◌, inl, inr, subst, ℕ, zero, suc, Bool, true, false, cond, List, [], ◌∷◌, take, slice_get, Option, Some, None}
 use Rattle.std.specs.Prelude.{⊤, All}
 use Rattle.std.specs.List.{AllByRecursion}
 use Rattle.std.proofs.lemmas.List.Elements.{All-nil, All-cons}
 use Rattle.b1_model.specs.declared.naming.Opening.{Opening}
 use Rattle.b1_model.specs.declared.answers.Answer.{Answer}
 use Rattle.b1_model.specs.declared.answers.Answer.TheVariants as answer
+use Rattle.b1_model.specs.declared.answers.Receipt.TheVariants as receipt
 use Rattle.b1_model.specs.declared.commands.Command.{Command}
 use Rattle.b1_model.specs.declared.commands.Command.TheVariants as cmd
 use Rattle.b1_model.specs.declared.records.Call.{Call}
@@ -25,7 +26,8 @@ use Rattle.b1_law.proofs.Reached.{reached_sound}
 use Rattle.b1_schedule.specs.Shortage.{Shortage, no_shortage, shortage_of}
 use Rattle.b1_schedule.specs.Schedule.{Finished, Stalled, Playing, moves, start_of, IsPlay, IsStall}
 use Rattle.b1_play_commands.specs.Following.{Follows}
-use Rattle.b1_play_commands.specs.Spelled.{IsNotLimit, NoLimits, IsNamed, EndsReset, IsSpelled, AllSpelled}
+use Rattle.b1_report.specs.Report.{IsAnswer, IsWritten, HasSpelling, EachSpelled}
+use Rattle.b1_play_report.specs.Limits.{IsNotLimit, NoLimits}
 use Rattle.b1_play_commands.proofs.Calls.{driver_follows}
 use Rattle.b1_play_commands.proofs.Plays.{Plays, plays}
 
@@ -49,13 +51,13 @@ NextIs (Some command) = IsNotLimit command
 
 -- what is recorded for it has a name, and an answer of its kind
 abbrev IsOfKind : Call → Type 0
-IsOfKind call = IsNamed call.command × (fits call.command call.answer ≡ true)
+IsOfKind call = IsWritten call.command × (fits call.command call.answer ≡ true)
 
-named_by : (calls : List Call) (call : Call) (command : Command) → IsNamed (resolved command calls) → (call.command ≡ resolved command calls) → (fits call.command call.answer ≡ true) → IsOfKind call
-named_by calls call command named same is = (subst IsNamed (sym same) named, is)
+named_by : (calls : List Call) (call : Call) (command : Command) → IsWritten (resolved command calls) → (call.command ≡ resolved command calls) → (fits call.command call.answer ≡ true) → IsOfKind call
+named_by calls call command named same is = (subst IsWritten (sym same) named, is)
 
 recv_kind : (call : Call) → call.command ≡ cmd.Recv → fits cmd.Recv call.answer ≡ true → IsOfKind call
-recv_kind call same is = (subst IsNamed (sym same) tt, ap (λ c. fits c call.answer) same ∙ is)
+recv_kind call same is = (subst IsWritten (sym same) tt, ap (λ c. fits c call.answer) same ∙ is)
 
 ends_fits : (got : Answer) → ends_await got ≡ true → fits cmd.Recv got ≡ true
 ends_fits (answer.Got receipt) is = refl
@@ -79,17 +81,19 @@ of_kind calls (Some (cmd.SliceRelease offset)) call none placed = named_by calls
 of_kind calls (Some (cmd.Send c)) call none placed = named_by calls call (cmd.Send c) tt placed.0 placed.1
 of_kind calls (Some cmd.Recv) call none placed = named_by calls call cmd.Recv tt placed.0 placed.1
 
--- the answer of a flush fits no other command
-reset_ends : (command : Command) (got : Answer) → fits command got ≡ true → EndsReset command got
-reset_ends (cmd.Reset limits) (answer.Reset stamp) is = tt
-reset_ends cmd.Disconnect (answer.Reset stamp) is = tt
-reset_ends command (answer.Reset stamp) is = absurd (cc is)
-reset_ends command (answer.Sent sent) is = tt
-reset_ends command (answer.Got receipt) is = tt
-reset_ends command answer.Done is = tt
-reset_ends command (answer.Destroyed stamp) is = tt
-reset_ends command (answer.Info user pool limits) is = tt
-reset_ends command (answer.Refused refused) is = tt
+-- an answer of the command's kind has a text, where a destroy notice names a node
+has_text : (command : Command) (got : Answer) → fits command got ≡ true → NamesNode got → IsAnswer command got
+has_text (cmd.Reset limits) (answer.Reset stamp) is names = tt
+has_text cmd.Disconnect (answer.Reset stamp) is names = tt
+has_text command (answer.Reset stamp) is names = absurd (cc is)
+has_text command (answer.Got (receipt.Destroyed key number)) is names = names
+has_text command (answer.Got (receipt.Message key number offset handles payload)) is names = tt
+has_text command (answer.Got (receipt.Released stamp number)) is names = tt
+has_text command (answer.Sent sent) is names = tt
+has_text command answer.Done is names = tt
+has_text command (answer.Destroyed stamp) is names = tt
+has_text command (answer.Info user pool limits) is names = tt
+has_text command (answer.Refused refused) is names = tt
 
 -- ---- a driver
 
@@ -114,12 +118,12 @@ module _ (d : DriverPart) (named : NoticesNamed d) where
   calls_name call h = elim (has_append d.calls (open_by d.doing) call h) [ inl old ↦ named.calls call old | inr new ↦ open_names d.doing refl call new ]
 
   -- the calls that stand in a record for the driver
-  calls_spelled : (commands : List Command) → AllByRecursion IsNotLimit commands → Follows commands d → All IsSpelled (driver_calls d)
+  calls_spelled : (commands : List Command) → AllByRecursion IsNotLimit commands → Follows commands d → All HasSpelling (driver_calls d)
   calls_spelled commands none follows =
-      all_get IsSpelled (driver_calls d)
+      all_get HasSpelling (driver_calls d)
       (λ k call is.
       let kind = of_kind (take k (driver_calls d)) (slice_get commands k) call (next_is (slice_get commands k) (λ c there. get_all IsNotLimit commands k c none there)) (driver_follows commands d follows k call is) in
-      record { command = kind.0; reset = reset_ends call.command call.answer kind.1; node = calls_name call (has_at (driver_calls d) k call is) })
+      (kind.0, has_text call.command call.answer kind.1 (calls_name call (has_at (driver_calls d) k call is))))
     where
       next_is : (next : Option Command) → ((c : Command) → next ≡ Some c → IsNotLimit c) → NextIs next
       next_is None each = tt
@@ -127,10 +131,10 @@ module _ (d : DriverPart) (named : NoticesNamed d) where
 
 -- ---- a state
 
-records_spelled : (xs : List PeerPart) (ds : List DriverPart) → ((p : ℕ) (d : DriverPart) → slice_get ds p ≡ Some d → All IsSpelled (driver_calls d)) → All (λ (x : PeerCalls). All IsSpelled x.calls) (peer_records xs ds)
-records_spelled [] ds each = All-nil (λ (x : PeerCalls). All IsSpelled x.calls)
-records_spelled (x ∷ xs) [] each = All-nil (λ (y : PeerCalls). All IsSpelled y.calls)
-records_spelled (x ∷ xs) (d ∷ ds) each = All-cons (λ (y : PeerCalls). All IsSpelled y.calls) _ (peer_records xs ds) (each 0 d refl) (records_spelled xs ds (λ p e is. each (suc p) e is))
+records_spelled : (xs : List PeerPart) (ds : List DriverPart) → ((p : ℕ) (d : DriverPart) → slice_get ds p ≡ Some d → All HasSpelling (driver_calls d)) → All (λ (x : PeerCalls). All HasSpelling x.calls) (peer_records xs ds)
+records_spelled [] ds each = All-nil (λ (x : PeerCalls). All HasSpelling x.calls)
+records_spelled (x ∷ xs) [] each = All-nil (λ (y : PeerCalls). All HasSpelling y.calls)
+records_spelled (x ∷ xs) (d ∷ ds) each = All-cons (λ (y : PeerCalls). All HasSpelling y.calls) _ (peer_records xs ds) (each 0 d refl) (records_spelled xs ds (λ p e is. each (suc p) e is))
 
 commands_none : (lists : List (List Command)) (p : ℕ) → NoLimits lists → AllByRecursion IsNotLimit (commands_of lists p)
 commands_none [] p none = tt
@@ -138,15 +142,15 @@ commands_none (commands ∷ rest) zero none = none.0
 commands_none (commands ∷ rest) (suc p) none = commands_none rest p none.1
 
 module _ (o : Opening) (lists : List (List Command)) (turns : List ℕ) (valid : IsOpening o) (none : NoLimits lists) where
-  came_to : (m : Shortage) (count : ℕ) (end : Playing) → moves o lists m count (start_of o turns) ≡ end → AllSpelled (record_of_state end.state)
+  came_to : (m : Shortage) (count : ℕ) (end : Playing) → moves o lists m count (start_of o turns) ≡ end → EachSpelled (record_of_state end.state).peers
   came_to m count end is =
       let k = subst (Plays o lists) is (plays o lists m (λ s reached. reached_sound o s valid reached) turns count) in
       let sound = reached_sound o end.state valid k.follow.reached in
       records_spelled end.state.peers end.state.drivers
       (λ p d is_driver. calls_spelled d (sound.receipts.named p d is_driver) (commands_of lists p) (commands_none lists p none) (k.follow.all p d is_driver))
 
-  pub played_spelled : (r : Record) → IsPlay o lists turns r → AllSpelled r
-  played_spelled r play = subst AllSpelled (sym play.record_is) (came_to (shortage_of r) play.comes.count (record { state = play.state; stage = Finished }) play.comes.is_at)
+  pub played_spelled : (r : Record) → IsPlay o lists turns r → EachSpelled r.peers
+  played_spelled r play = subst (λ z. EachSpelled z.peers) (sym play.record_is) (came_to (shortage_of r) play.comes.count (record { state = play.state; stage = Finished }) play.comes.is_at)
 
-  pub stalled_spelled : (waiting : List ℕ) (r : Record) → IsStall o lists turns waiting r → AllSpelled r
-  stalled_spelled waiting r stall = subst AllSpelled (sym stall.record_is) (came_to no_shortage stall.comes.count (record { state = stall.state; stage = Stalled }) stall.comes.is_at)
+  pub stalled_spelled : (waiting : List ℕ) (r : Record) → IsStall o lists turns waiting r → EachSpelled r.peers
+  stalled_spelled waiting r stall = subst (λ z. EachSpelled z.peers) (sym stall.record_is) (came_to no_shortage stall.comes.count (record { state = stall.state; stage = Stalled }) stall.comes.is_at)

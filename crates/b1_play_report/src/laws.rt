@@ -4,13 +4,14 @@ ghost use Rattle.b1_model.specs.declared.commands.Command.{Command};
 ghost use Rattle.b1_model.specs.declared.records.Record.{Record};
 ghost use Rattle.b1_model.specs.Opening.{IsOpening};
 ghost use Rattle.b1_schedule.specs.Schedule.{IsPlay, IsStall};
-ghost use Rattle.b1_play_commands.specs.Spelled.{AllSpelled, NoLimits};
+ghost use Rattle.b1_report.specs.Report.{EachSpelled};
+ghost use Rattle.b1_play_report.specs.Limits.{NoLimits};
 
 /// What is played of a script without a PEER_RESET without flush can be reported, and so can what stalls: no call is such
 /// a reset or an AWAIT, the answer of a flush is that of a PEER_RESET or a PEER_DISCONNECT, and each destroy notice has an
 /// even number.
 pub fn what_is_played_is_spelled()
-    ensures played { (o : Opening) (lists : List (List Command)) (turns : List ℕ) (r : Record) → IsOpening o → NoLimits lists → IsPlay o lists turns r → AllSpelled r }
+    ensures played { (o : Opening) (lists : List (List Command)) (turns : List ℕ) (r : Record) → IsOpening o → NoLimits lists → IsPlay o lists turns r → EachSpelled r.peers }
     ensures stalled { (o : Opening) (lists : List (List Command)) (turns : List ℕ) (waiting : List ℕ) (r : Record) → IsOpening o → NoLimits lists
-        → IsStall o lists turns waiting r → AllSpelled r }
+        → IsStall o lists turns waiting r → EachSpelled r.peers }
 {}
