@@ -26,8 +26,7 @@ use Rattle.b1_law.proofs.Reached.{reached_sound}
 use Rattle.b1_schedule.specs.Shortage.{Shortage, no_shortage, shortage_of}
 use Rattle.b1_schedule.specs.Schedule.{Finished, Stalled, Playing, moves, start_of, IsPlay, IsStall}
 use Rattle.b1_play_commands.specs.Following.{Follows}
-use Rattle.b1_report_lines.specs.Answers.{IsAnswer}
-use Rattle.b1_report.specs.Report.{IsWritten, HasSpelling, AllSpelled, EachSpelled}
+use Rattle.b1_report.specs.Report.{IsAnswer, IsWritten, HasSpelling, EachSpelled}
 use Rattle.b1_play_report.specs.Limits.{IsNotLimit, NoLimits}
 use Rattle.b1_play_commands.proofs.Calls.{driver_follows}
 use Rattle.b1_play_commands.proofs.Plays.{Plays, plays}
@@ -82,19 +81,19 @@ of_kind calls (Some (cmd.SliceRelease offset)) call none placed = named_by calls
 of_kind calls (Some (cmd.Send c)) call none placed = named_by calls call (cmd.Send c) tt placed.0 placed.1
 of_kind calls (Some cmd.Recv) call none placed = named_by calls call cmd.Recv tt placed.0 placed.1
 
--- an answer of its kind has a text behind a command, where a destroy notice names a node
-answers : (command : Command) (got : Answer) → fits command got ≡ true → NamesNode got → IsAnswer command got
-answers (cmd.Reset limits) (answer.Reset stamp) is names = tt
-answers cmd.Disconnect (answer.Reset stamp) is names = tt
-answers command (answer.Reset stamp) is names = absurd (cc is)
-answers command (answer.Got (receipt.Message key number offset handles payload)) is names = tt
-answers command (answer.Got (receipt.Destroyed key number)) is names = names
-answers command (answer.Got (receipt.Released stamp number)) is names = tt
-answers command (answer.Sent sent) is names = tt
-answers command answer.Done is names = tt
-answers command (answer.Destroyed stamp) is names = tt
-answers command (answer.Info user pool limits) is names = tt
-answers command (answer.Refused refused) is names = tt
+-- an answer of the command's kind has a text, where a destroy notice names a node
+has_text : (command : Command) (got : Answer) → fits command got ≡ true → NamesNode got → IsAnswer command got
+has_text (cmd.Reset limits) (answer.Reset stamp) is names = tt
+has_text cmd.Disconnect (answer.Reset stamp) is names = tt
+has_text command (answer.Reset stamp) is names = absurd (cc is)
+has_text command (answer.Got (receipt.Destroyed key number)) is names = names
+has_text command (answer.Got (receipt.Message key number offset handles payload)) is names = tt
+has_text command (answer.Got (receipt.Released stamp number)) is names = tt
+has_text command (answer.Sent sent) is names = tt
+has_text command answer.Done is names = tt
+has_text command (answer.Destroyed stamp) is names = tt
+has_text command (answer.Info user pool limits) is names = tt
+has_text command (answer.Refused refused) is names = tt
 
 -- ---- a driver
 
@@ -119,12 +118,12 @@ module _ (d : DriverPart) (named : NoticesNamed d) where
   calls_name call h = elim (has_append d.calls (open_by d.doing) call h) [ inl old ↦ named.calls call old | inr new ↦ open_names d.doing refl call new ]
 
   -- the calls that stand in a record for the driver
-  calls_spelled : (commands : List Command) → AllByRecursion IsNotLimit commands → Follows commands d → AllSpelled (driver_calls d)
+  calls_spelled : (commands : List Command) → AllByRecursion IsNotLimit commands → Follows commands d → All HasSpelling (driver_calls d)
   calls_spelled commands none follows =
       all_get HasSpelling (driver_calls d)
       (λ k call is.
       let kind = of_kind (take k (driver_calls d)) (slice_get commands k) call (next_is (slice_get commands k) (λ c there. get_all IsNotLimit commands k c none there)) (driver_follows commands d follows k call is) in
-      (kind.0, answers call.command call.answer kind.1 (calls_name call (has_at (driver_calls d) k call is))))
+      (kind.0, has_text call.command call.answer kind.1 (calls_name call (has_at (driver_calls d) k call is))))
     where
       next_is : (next : Option Command) → ((c : Command) → next ≡ Some c → IsNotLimit c) → NextIs next
       next_is None each = tt
@@ -132,10 +131,10 @@ module _ (d : DriverPart) (named : NoticesNamed d) where
 
 -- ---- a state
 
-records_spelled : (xs : List PeerPart) (ds : List DriverPart) → ((p : ℕ) (d : DriverPart) → slice_get ds p ≡ Some d → AllSpelled (driver_calls d)) → All (λ (x : PeerCalls). AllSpelled x.calls) (peer_records xs ds)
-records_spelled [] ds each = All-nil (λ (x : PeerCalls). AllSpelled x.calls)
-records_spelled (x ∷ xs) [] each = All-nil (λ (y : PeerCalls). AllSpelled y.calls)
-records_spelled (x ∷ xs) (d ∷ ds) each = All-cons (λ (y : PeerCalls). AllSpelled y.calls) _ (peer_records xs ds) (each 0 d refl) (records_spelled xs ds (λ p e is. each (suc p) e is))
+records_spelled : (xs : List PeerPart) (ds : List DriverPart) → ((p : ℕ) (d : DriverPart) → slice_get ds p ≡ Some d → All HasSpelling (driver_calls d)) → All (λ (x : PeerCalls). All HasSpelling x.calls) (peer_records xs ds)
+records_spelled [] ds each = All-nil (λ (x : PeerCalls). All HasSpelling x.calls)
+records_spelled (x ∷ xs) [] each = All-nil (λ (y : PeerCalls). All HasSpelling y.calls)
+records_spelled (x ∷ xs) (d ∷ ds) each = All-cons (λ (y : PeerCalls). All HasSpelling y.calls) _ (peer_records xs ds) (each 0 d refl) (records_spelled xs ds (λ p e is. each (suc p) e is))
 
 commands_none : (lists : List (List Command)) (p : ℕ) → NoLimits lists → AllByRecursion IsNotLimit (commands_of lists p)
 commands_none [] p none = tt
@@ -151,7 +150,7 @@ module _ (o : Opening) (lists : List (List Command)) (turns : List ℕ) (valid :
       (λ p d is_driver. calls_spelled d (sound.receipts.named p d is_driver) (commands_of lists p) (commands_none lists p none) (k.follow.all p d is_driver))
 
   pub played_spelled : (r : Record) → IsPlay o lists turns r → EachSpelled r.peers
-  played_spelled r play = subst (λ (x : Record). EachSpelled x.peers) (sym play.record_is) (came_to (shortage_of r) play.comes.count (record { state = play.state; stage = Finished }) play.comes.is_at)
+  played_spelled r play = subst (λ z. EachSpelled z.peers) (sym play.record_is) (came_to (shortage_of r) play.comes.count (record { state = play.state; stage = Finished }) play.comes.is_at)
 
   pub stalled_spelled : (waiting : List ℕ) (r : Record) → IsStall o lists turns waiting r → EachSpelled r.peers
-  stalled_spelled waiting r stall = subst (λ (x : Record). EachSpelled x.peers) (sym stall.record_is) (came_to no_shortage stall.comes.count (record { state = stall.state; stage = Stalled }) stall.comes.is_at)
+  stalled_spelled waiting r stall = subst (λ z. EachSpelled z.peers) (sym stall.record_is) (came_to no_shortage stall.comes.count (record { state = stall.state; stage = Stalled }) stall.comes.is_at)

@@ -1,1 +1,3 @@
 pub mod Limits
+pub use Rattle.b1_report.specs.Report
+pub use Rattle.b1_schedule.specs.Schedule

@@ -1,4 +1,4 @@
--- Scripts that files can have: no command is a PEER_RESET without flush, which has no words yet.
+-- Scripts of which a report can tell: no peer sets new limits without a flush.
 use Rattle.std.specs.Prelude.{⊤, List}
 use Rattle.std.specs.List.{AllByRecursion}
 use Rattle.b1_model.specs.declared.commands.Command.{Command}
