@@ -7,9 +7,9 @@ ghost use Rattle.b1_schedule.specs.Schedule.{IsPlay, IsStall};
 ghost use Rattle.b1_report.specs.Report.{EachSpelled};
 ghost use Rattle.b1_play_report.specs.Limits.{NoLimits};
 
-/// Each call of what is played of a script without a PEER_RESET without flush has a line of its own in a report, and so has
-/// each call of what stalls: none is such a reset or an AWAIT, the answer of a flush is that of a PEER_RESET or a
-/// PEER_DISCONNECT, and each destroy notice has an even number.
+/// What is played of a script without a PEER_RESET without flush can be reported, and so can what stalls: no call is such
+/// a reset or an AWAIT, the answer of a flush is that of a PEER_RESET or a PEER_DISCONNECT, and each destroy notice has an
+/// even number.
 pub fn what_is_played_is_spelled()
     ensures played { (o : Opening) (lists : List (List Command)) (turns : List ℕ) (r : Record) → IsOpening o → NoLimits lists → IsPlay o lists turns r → EachSpelled r.peers }
     ensures stalled { (o : Opening) (lists : List (List Command)) (turns : List ℕ) (waiting : List ℕ) (r : Record) → IsOpening o → NoLimits lists
