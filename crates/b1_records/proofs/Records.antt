@@ -9,7 +9,7 @@ use Rattle.b1_errs.specs.declared.Cause.{Cause}
 use Rattle.b1_errs.specs.declared.Cause.TheVariants as causes
 use Rattle.b1_errs.specs.declared.NotRead.{NotRead}
 use Rattle.b1_model.specs.declared.commands.Command.{Command}
-use Rattle.b1_model.specs.declared.commands.Command.TheVariants.{Disconnect, Query, Reset, Release, Destroy, SliceRelease, Send, Recv, Await}
+use Rattle.b1_model.specs.declared.commands.Command.TheVariants.{Disconnect, Query, Reset, Limit, Release, Destroy, SliceRelease, Send, Recv, Await}
 use Rattle.b1_model.specs.declared.commands.SendCmd.{SendCmd}
 use Rattle.b1_model.specs.declared.naming.Limits.{Limits}
 use Rattle.b1_records.specs.declared.kinds.Kind.{Kind}
@@ -324,6 +324,7 @@ pub command_kind : Command → Kind
 command_kind Disconnect = kinds.Disconnect
 command_kind Query = kinds.Query
 command_kind (Reset limits) = kinds.Reset
+command_kind (Limit limits) = kinds.Reset
 command_kind (Release number) = kinds.Release
 command_kind (Destroy numbers) = kinds.Destroy
 command_kind (SliceRelease offset) = kinds.SliceRelease
@@ -415,6 +416,7 @@ body_again limit bytes fits Query at end s by within numbers = plain_again bytes
 body_again limit bytes fits Recv at end s by within numbers = plain_again bytes Recv at end s
 body_again limit bytes fits Await at end s by within numbers = plain_again bytes Await at end s
 body_again limit bytes fits (Reset limits) at end s by within numbers = rw ((limits_format limit bytes fits).again at limits end s by numbers) refl
+body_again limit bytes fits (Limit limits) at end s by within numbers = absurd within
 body_again limit bytes fits (Release n) at end s by within numbers = rw ((long_number_format limit bytes fits).again at n end s by numbers) refl
 body_again limit bytes fits (Destroy xs) at end s by within numbers = rw ((list_format limit bytes fits).again at xs end s by (within, numbers)) refl
 body_again limit bytes fits (SliceRelease n) at end s by within numbers = rw ((long_number_format limit bytes fits).again at n end s by numbers) refl
@@ -429,6 +431,7 @@ unfolding command_kind command_goes_on
 can_go_on Disconnect = refl
 can_go_on Query = refl
 can_go_on (Reset limits) = refl
+can_go_on (Limit limits) = refl
 can_go_on (Release n) = refl
 can_go_on (Destroy xs) = refl
 can_go_on (SliceRelease n) = refl
@@ -436,17 +439,18 @@ can_go_on (Send send) = send_can send.go_on
 can_go_on Recv = refl
 can_go_on Await = refl
 
-command_text : (c : Command) → u32_bytes (code_of (command_kind c)) ++ (u32_bytes (flags_of (command_goes_on c)) ++ body_text c) ≡ spelling c
+command_text : (c : Command) → IsWithin c → u32_bytes (code_of (command_kind c)) ++ (u32_bytes (flags_of (command_goes_on c)) ++ body_text c) ≡ spelling c
 unfolding command_kind command_goes_on body_text
-command_text Disconnect = refl
-command_text Query = refl
-command_text (Reset limits) = refl
-command_text (Release n) = refl
-command_text (Destroy xs) = refl
-command_text (SliceRelease n) = refl
-command_text (Send send) = refl
-command_text Recv = refl
-command_text Await = refl
+command_text Disconnect within = refl
+command_text Query within = refl
+command_text (Reset limits) within = refl
+command_text (Limit limits) within = absurd within
+command_text (Release n) within = refl
+command_text (Destroy xs) within = refl
+command_text (SliceRelease n) within = refl
+command_text (Send send) within = refl
+command_text Recv within = refl
+command_text Await within = refl
 
 abbrev command2 : ℕ → List ℕ → Kind → ℕ → Read Command
 command2 limit bytes kind at = flags_at limit bytes kind at >>= λ go_on. body_at limit bytes kind go_on.0 go_on.1
@@ -471,7 +475,7 @@ command_format limit bytes fits =
     let f1 = seq_format {A = Kind} {B = Command} limit bytes (kind_at limit bytes) (command2 limit bytes) (λ kind. u32_bytes (code_of kind)) (λ kind. Unit {0}) (λ kind c. u32_bytes (flags_of (command_goes_on c)) ++ body_text c) (λ kind c. CanGoOn kind (command_goes_on c) × IsBody kind (command_goes_on c) c) command_kind
     (kind_format limit bytes fits) (λ kind h. f2 kind) (λ kind c h k. k.1.kind_is) in
     convert {A = Command} limit bytes (command_at limit bytes) _ spelling _ Fits f1
-    (λ c h. command_text c) (λ c h. (h.1.1.limits, h.1.1.numbers)) (λ c h. (tt, (can_go_on c, record { kind_is = refl; goes_on_is = refl; limits = h.0; numbers = h.1 })))
+    (λ c h. command_text c h.1.1.limits) (λ c h. (h.1.1.limits, h.1.1.numbers)) (λ c h. (tt, (can_go_on c, record { kind_is = refl; goes_on_is = refl; limits = h.0; numbers = h.1 })))
 
 -- ---- a record at any place
 

@@ -1,10 +1,11 @@
 -- Command records: the one spelling of each command.
-use Rattle.std.specs.Prelude.{◌≡◌, ℕ, ◌+◌, ◌-◌, ◌*◌, ◌/◌, ◌^◌, ◌<◌, ◌≤◌, Bool, if◌then◌else◌, List, ◌++◌, length, replicate}
+use Rattle.std.specs.Prelude.{◌≡◌, ℕ, ◌+◌, ◌-◌, ◌*◌, ◌/◌, ◌^◌, ◌<◌, ◌≤◌, Bool, if◌then◌else◌, List, [], ◌++◌, length, replicate}
 use Rattle.std.specs.List.{flat_map, AllByRecursion}
 use Rattle.b1_model.specs.declared.commands.Command.{Command}
-use Rattle.b1_model.specs.declared.commands.Command.TheVariants.{Disconnect, Query, Reset, Release, Destroy, SliceRelease, Send, Recv, Await}
+use Rattle.b1_model.specs.declared.commands.Command.TheVariants.{Disconnect, Query, Reset, Limit, Release, Destroy, SliceRelease, Send, Recv, Await}
 use Rattle.b1_model.specs.declared.commands.SendCmd.{SendCmd}
 use Rattle.b1_model.specs.declared.naming.Limits.{Limits}
+use Rattle.b1_model.specs.declared.limits.TheConstants.{MOST_NUMBERS, MOST_BYTES}
 use Rattle.b1_records.specs.declared.kinds.Kind.{Kind}
 use Rattle.b1_records.specs.declared.kinds.Kind.TheVariants as kinds
 use Rattle.b1_wire.specs.Numbers.{u32_bytes, u64_bytes, StandsAt}
@@ -23,10 +24,10 @@ code_of kinds.Await = 9
 
 -- how many numbers one list of a record has at most, and how many bytes a payload
 abbrev pub most_numbers : ℕ
-most_numbers = 1024
+most_numbers = MOST_NUMBERS
 
 abbrev pub most_bytes : ℕ
-most_bytes = 1048576
+most_bytes = MOST_BYTES
 
 -- a length rounded up to a multiple of 8
 abbrev pub rounded : ℕ → ℕ
@@ -60,11 +61,12 @@ counts_spelling send = u32_bytes (length send.to) ++ u32_bytes (length send.with
 abbrev pub send_spelling : SendCmd → List ℕ
 send_spelling send = counts_spelling send ++ flat_map u64_bytes send.to ++ flat_map u64_bytes send.with ++ padded send.payload
 
--- the bytes of a command
+-- the bytes of a command; a PEER_RESET without flush has none yet
 abbrev pub spelling : Command → List ℕ
 spelling Disconnect = head kinds.Disconnect 0
 spelling Query = head kinds.Query 0
 spelling (Reset limits) = head kinds.Reset 0 ++ limits_spelling limits
+spelling (Limit limits) = []
 spelling (Release number) = head kinds.Release 0 ++ u64_bytes number
 spelling (Destroy numbers) = head kinds.Destroy 0 ++ list_spelling numbers
 spelling (SliceRelease offset) = head kinds.SliceRelease 0 ++ u64_bytes offset
@@ -78,10 +80,11 @@ pub record IsSendWithin (send : SendCmd) : Type 0 where
   pub with : length send.with ≤ most_numbers
   pub payload : length send.payload ≤ most_bytes
 
--- the limits of a record: the length of each list of numbers, and of a payload
+-- what a record can carry: lists of numbers and a payload that aren't too long, and no PEER_RESET without flush yet
 abbrev pub IsWithin : Command → Type 0
 IsWithin (Destroy numbers) = length numbers ≤ most_numbers
 IsWithin (Send send) = IsSendWithin send
+IsWithin (Limit limits) = ⊥
 IsWithin command = Unit {0}
 
 abbrev pub Is32 : ℕ → Type 0
@@ -106,6 +109,7 @@ pub record IsSend (send : SendCmd) : Type 0 where
 -- each number of a command fits the field that it has in the program
 abbrev pub HasNumbers : Command → Type 0
 HasNumbers (Reset limits) = AreLimits limits
+HasNumbers (Limit limits) = AreLimits limits
 HasNumbers (Release number) = Is64 number
 HasNumbers (Destroy numbers) = AllByRecursion Is64 numbers
 HasNumbers (SliceRelease offset) = Is64 offset

@@ -7,14 +7,8 @@ ghost use Rattle.b1_records.specs.Reading.{Gives, IsFault, bad_record, kind_at, 
 use crate::fields::{count, long_number, number, numbers, payload, zero};
 use crate::kinds::{Kind, goes_on, kind_of_code};
 use b1_errs::{Cause, NotRead};
-use b1_model::{Command, Limits, Nums, SendCmd};
+use b1_model::{Command, Limits, MOST_BYTES, MOST_NUMBERS, Nums, SendCmd};
 use std::alloc::Global;
-
-/// How many numbers one list of a record has at most.
-const MOST_NUMBERS: u32 = 1024;
-
-/// How many bytes a payload has at most.
-const MOST_BYTES: u32 = 1_048_576;
 
 #[tactic(auto, unfolding(crate::specs::Reading::kind_at))]
 fn kind_of_record(bytes: &[u8], at: usize, limit: usize) -> Result<(Kind, usize), NotRead>

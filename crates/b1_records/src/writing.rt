@@ -100,6 +100,7 @@ fn put_command(command: &Command, out: &mut Vec<u8>) -> Result<(), AllocError>
             put_head(Kind::Reset, 0, out)?;
             put_limits(limits, out)
         }
+        Command::Limit { .. } => unreachable!(),
         Command::Release { number } => {
             put_head(Kind::Release, 0, out)?;
             put_u64(out, *number)
@@ -121,7 +122,8 @@ fn put_command(command: &Command, out: &mut Vec<u8>) -> Result<(), AllocError>
     }
 }
 
-/// Appends a command's record. An error is want of memory, and leaves the bytes as they were.
+/// Appends a command's record. A PEER_RESET without flush has none. An error is want of memory, and leaves the bytes as
+/// they were.
 pub fn encode(command: &Command, out: &mut Vec<u8>) -> Result<(), AllocError>
     requires { IsWithin command.now }
     ensures ok { OnOk result (out.new.items ≡ out.old.items ++ spelling command.now) }

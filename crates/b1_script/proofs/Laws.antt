@@ -8,10 +8,12 @@ use Rattle.std.proofs.lemmas.List.Concat.{flat_map-cons}
 use Rattle.b1_errs.specs.declared.Cause.TheVariants as causes
 use Rattle.b1_errs.specs.declared.NotRead.{NotRead}
 use Rattle.b1_model.specs.declared.commands.Command.{Command}
-use Rattle.b1_model.specs.declared.commands.Command.TheVariants.{Disconnect, Query, Reset, Release, Destroy, SliceRelease, Send, Recv, Await}
+use Rattle.b1_model.specs.declared.commands.Command.TheVariants.{Disconnect, Query, Reset, Limit, Release, Destroy, SliceRelease, Send, Recv, Await}
+use Rattle.b1_model.specs.declared.limits.TheConstants.{MOST_FILE_PEERS, MOST_SCRIPT}
 use Rattle.b1_model.specs.declared.naming.PeerSpec.{PeerSpec}
 use Rattle.b1_model.specs.declared.naming.Wire.{Wire}
 use Rattle.b1_model.specs.Opening.{AreWired, HasPool, IsOpening}
+use Rattle.b1_model.proofs.Pools.{few_pools}
 use Rattle.b1_wire.specs.Numbers.{u32_bytes, u64_bytes}
 use Rattle.b1_records.specs.Spelling.{IsWithin, HasNumbers, Is32, IsByte, Stands}
 use Rattle.b1_records.specs.Spelling as records
@@ -20,7 +22,7 @@ use Rattle.b1_records.proofs.Formats.{IsBytes, IsFormat, bind_ok, guard_ok, pass
 use Rattle.b1_records.proofs.Records.{Fits, fault_or_value, each_byte}
 use Rattle.b1_script.specs.declared.header.Header.{Header}
 use Rattle.b1_script.specs.declared.script.Script.{Script}
-use Rattle.b1_script.specs.Spelling.{most_script, header_len, peer_spelling, wire_spelling, commands_spelling, pad_spelling, parts, header_spelling, spelling, HasSpelling, IsSpec, IsWire, HasFields, IsScript, IsWhole}
+use Rattle.b1_script.specs.Spelling.{header_len, peer_spelling, wire_spelling, commands_spelling, pad_spelling, parts, header_spelling, spelling, HasSpelling, IsSpec, IsWire, HasFields, IsScript, IsWhole}
 use Rattle.b1_script.specs.Reading.{header_at, parts_at, script_at, whole_at, to_the_end, len_place, bad_script, bad}
 use Rattle.b1_script.proofs.Scripts.{htext1, IsHeader, header_format, IsPeer, CommandsFit, PartsFit, parts_format}
 
@@ -41,31 +43,32 @@ length_turns (t ∷ ts) =
     omega (arith, e, ih)
 
 -- a record has bytes
-some_bytes : (c : Command) → 1 ≤ length (records.spelling c)
-some_bytes Disconnect = omega arith
-some_bytes Query = omega arith
-some_bytes (Reset limits) = omega arith
-some_bytes (Release n) = omega arith
-some_bytes (Destroy ns) = omega arith
-some_bytes (SliceRelease n) = omega arith
-some_bytes (Send send) = omega arith
-some_bytes Recv = omega arith
-some_bytes Await = omega arith
+some_bytes : (c : Command) → IsWithin c → 1 ≤ length (records.spelling c)
+some_bytes Disconnect within = omega arith
+some_bytes Query within = omega arith
+some_bytes (Reset limits) within = omega arith
+some_bytes (Limit limits) within = absurd within
+some_bytes (Release n) within = omega arith
+some_bytes (Destroy ns) within = omega arith
+some_bytes (SliceRelease n) within = omega arith
+some_bytes (Send send) within = omega arith
+some_bytes Recv within = omega arith
+some_bytes Await within = omega arith
 
-length_commands : (cs : List Command) → length cs ≤ length (flat_map records.spelling cs)
-length_commands [] = omega arith
-length_commands (c ∷ cs) =
+length_commands : (cs : List Command) → AllByRecursion IsWithin cs → length cs ≤ length (flat_map records.spelling cs)
+length_commands [] within = omega arith
+length_commands (c ∷ cs) within =
     let e = ap (λ (x : List ℕ). length x) (flat_map-cons records.spelling c cs) ∙ length-append (records.spelling c) (flat_map records.spelling cs) in
-    let ih = length_commands cs in
-    omega (arith, e, ih, some_bytes c)
+    let ih = length_commands cs within.1 in
+    omega (arith, e, ih, some_bytes c within.0)
 
 -- each list of commands has at most as many as all the lists have bytes
-short_lists : (top : ℕ) (ls : List (List Command)) → length (flat_map commands_spelling ls) ≤ top → AllByRecursion (λ cs. length cs ≤ top) ls
-short_lists top [] h = tt
-short_lists top (cs ∷ ls) h =
+short_lists : (top : ℕ) (ls : List (List Command)) → AllByRecursion (AllByRecursion IsWithin) ls → length (flat_map commands_spelling ls) ≤ top → AllByRecursion (λ cs. length cs ≤ top) ls
+short_lists top [] within h = tt
+short_lists top (cs ∷ ls) within h =
     let e = ap (λ (x : List ℕ). length x) (flat_map-cons commands_spelling cs ls) ∙ length-append (commands_spelling cs) (flat_map commands_spelling ls) in
-    let own = length_commands cs in
-    (omega (arith, e, own, h), short_lists top ls (omega (arith, e, h)))
+    let own = length_commands cs within.0 in
+    (omega (arith, e, own, h), short_lists top ls within.1 (omega (arith, e, h)))
 
 -- the lengths of the parts
 record PartLengths (s : Script) : Type 0 where
@@ -108,10 +111,12 @@ header_is h s fit len =
     rw len (rw (fit.peer_count, fit.clock, fit.wire_count, fit.turn_count) refl)
 
 -- the facts that were found make a script
-found_facts : (bytes : List ℕ) (s : Script) (h : Header) (end : ℕ) → header_of s ≡ h → Stands bytes 0 (htext1 h ++ parts s) end → end ≤ most_script → end ≡ header_len + length (parts s) → IsHeader h → PartsFit h s → IsScript bytes s end
+found_facts : (bytes : List ℕ) (s : Script) (h : Header) (end : ℕ) → header_of s ≡ h → Stands bytes 0 (htext1 h ++ parts s) end → end ≤ MOST_SCRIPT → end ≡ header_len + length (parts s) → IsHeader h → PartsFit h s → IsScript bytes s end
 found_facts bytes s h end same joined under ends is_header fit =
     let lengths = part_lengths s in
     let n : length s.opening.peers ≡ h.peers = fit.peer_count in
+    let few : length s.opening.peers ≤ MOST_FILE_PEERS = omega (arith, n, is_header.peers.1) in
+    let pools = each IsPeer HasPool (λ p k. k.1) s.opening.peers fit.peers in
     record {
       has_spelling = record {
         opening = record {
@@ -119,13 +124,16 @@ found_facts bytes s h end same joined under ends is_header fit =
           most = omega (arith, n, is_header.peers.1);
           even = rw fit.clock is_header.clock.0;
           clock = rw fit.clock is_header.clock.1;
-          pools = each IsPeer HasPool (λ p k. k.1) s.opening.peers fit.peers;
+          pools = pools;
+          together = few_pools s.opening.peers few pools;
           few = omega (arith, under, ends, lengths.wires);
           wires = subst (λ (k : ℕ). AreWired k [] s.opening.wires) (sym n) fit.wires.0;
         };
+        few = few;
         lists = fit.list_count ∙ sym n;
         commands = each CommandsFit (AllByRecursion IsWithin) (λ cs k. each Fits IsWithin (λ c f. f.0) cs k.1) s.commands fit.lists;
         turns = subst (λ (k : ℕ). AllByRecursion (λ p. p < k) s.turns) (sym n) fit.turns;
+        cookies = fit.cookies;
         short = omega (arith, under, ends);
       };
       fields = record {
@@ -136,17 +144,17 @@ found_facts bytes s h end same joined under ends is_header fit =
       stands = subst (λ (k : Header). Stands bytes 0 (htext1 k ++ parts s) end) (sym same) joined;
     }
 
-pub script_found : (bytes : List ℕ) (s : Script) (end : ℕ) → IsBytes bytes → script_at most_script bytes ≡ Ok (s, end) → IsScript bytes s end
+pub script_found : (bytes : List ℕ) (s : Script) (end : ℕ) → IsBytes bytes → script_at MOST_SCRIPT bytes ≡ Ok (s, end) → IsScript bytes s end
 unfolding script_at
 script_found bytes s end fits e =
-    let b = bind_ok (header_at most_script bytes 0) (λ header. parts_at most_script bytes header.0 header.1 >>= λ script. cond (eqb script.1 header.0.len) (Ok script) (Err (len_place, causes.Length))) (s, end) e in
+    let b = bind_ok (header_at MOST_SCRIPT bytes 0) (λ header. parts_at MOST_SCRIPT bytes header.0 header.1 >>= λ script. cond (eqb script.1 header.0.len) (Ok script) (Err (len_place, causes.Length))) (s, end) e in
     let h : Header = b.0.0 in
-    let c = bind_ok (parts_at most_script bytes h b.0.1) (λ script. cond (eqb script.1 h.len) (Ok script) (Err (len_place, causes.Length))) (s, end) b.2 in
+    let c = bind_ok (parts_at MOST_SCRIPT bytes h b.0.1) (λ script. cond (eqb script.1 h.len) (Ok script) (Err (len_place, causes.Length))) (s, end) b.2 in
     let p = passed_ok (eqb c.0.1 h.len) (len_place, causes.Length) (Ok c.0) (s, end) c.2 in
     let is = ok_is c.0 (s, end) p.1 in
-    let t = (header_format most_script bytes fits).takes 0 h b.0.1 (omega arith) (omega arith) b.1 in
-    let read : parts_at most_script bytes h b.0.1 ≡ Ok (s, end) = subst (λ (x : Script × ℕ). parts_at most_script bytes h b.0.1 ≡ Ok x) is c.1 in
-    let u = (parts_format most_script bytes h fits t.2.peers.1).takes b.0.1 s end t.0.within t.1 read in
+    let t = (header_format MOST_SCRIPT bytes fits).takes 0 h b.0.1 (omega arith) (omega arith) b.1 in
+    let read : parts_at MOST_SCRIPT bytes h b.0.1 ≡ Ok (s, end) = subst (λ (x : Script × ℕ). parts_at MOST_SCRIPT bytes h b.0.1 ≡ Ok x) is c.1 in
+    let u = (parts_format MOST_SCRIPT bytes h fits t.2.peers.1).takes b.0.1 s end t.0.within t.1 read in
     let ends : end ≡ header_len + length (parts s) = omega (arith, t.0.ends, u.0.ends) in
     let len : header_len + length (parts s) ≡ h.len = sym ends ∙ ap (λ (x : Script × ℕ). x.1) (sym is) ∙ eqb-true c.0.1 h.len p.0 in
     let same : header_of s ≡ h = header_is h s u.2 len in
@@ -157,7 +165,7 @@ script_found bytes s end fits e =
 parts_fit : (s : Script) → HasSpelling s → HasFields s → PartsFit (header_of s) s
 parts_fit s has fields =
     let lengths = part_lengths s in
-    let short = short_lists (length (parts s)) s.commands lengths.lists in
+    let short = short_lists (length (parts s)) s.commands has.commands lengths.lists in
     let small : AllByRecursion (λ cs. Is32 (length cs)) s.commands = each (λ cs. length cs ≤ length (parts s)) (λ cs. Is32 (length cs)) (λ cs k. omega (arith, k, has.short)) s.commands short in
     let each_fits : AllByRecursion (AllByRecursion Fits) s.commands
     = each_both (AllByRecursion IsWithin) (AllByRecursion HasNumbers) (AllByRecursion Fits) (λ cs a b. each_both IsWithin HasNumbers Fits (λ c x y. (x, y)) cs a b) s.commands has.commands fields.commands in
@@ -171,35 +179,36 @@ parts_fit s has fields =
       lists = each_both (λ cs. Is32 (length cs)) (AllByRecursion Fits) CommandsFit (λ cs a b. (a, b)) s.commands small each_fits;
       turn_count = refl;
       turns = has.turns;
+      cookies = has.cookies;
     }
 
 header_fits : (s : Script) → HasSpelling s → IsHeader (header_of s)
 header_fits s has =
     let lengths = part_lengths s in
     record {
-      peers = (has.opening.least, has.opening.most);
+      peers = (has.opening.least, has.few);
       clock = (has.opening.even, has.opening.clock);
       wires = omega (arith, has.opening.few);
       turns = omega (arith, lengths.turns, has.short);
       len = omega (arith, has.short);
     }
 
-pub script_read : (bytes : List ℕ) (s : Script) (end : ℕ) → IsBytes bytes → IsScript bytes s end → script_at most_script bytes ≡ Ok (s, end)
+pub script_read : (bytes : List ℕ) (s : Script) (end : ℕ) → IsBytes bytes → IsScript bytes s end → script_at MOST_SCRIPT bytes ≡ Ok (s, end)
 unfolding script_at
 script_read bytes s end fits is =
     let h : Header = header_of s in
     let split = stands_split bytes (htext1 h) (parts s) 0 end is.stands in
     let middle : ℕ = 0 + length (htext1 h) in
     let ends : end ≡ header_len + length (parts s) = omega (arith, is.stands.ends, length-append (htext1 h) (parts s)) in
-    let under : end ≤ most_script = omega (arith, ends, is.has_spelling.short) in
-    let early : middle ≤ most_script = omega (arith, split.1.ends, under) in
-    let one = (header_format most_script bytes fits).again 0 h middle split.0 early (header_fits s is.has_spelling) in
-    let two = (parts_format most_script bytes h fits is.has_spelling.opening.most).again middle s end split.1 under (parts_fit s is.has_spelling is.fields) in
+    let under : end ≤ MOST_SCRIPT = omega (arith, ends, is.has_spelling.short) in
+    let early : middle ≤ MOST_SCRIPT = omega (arith, split.1.ends, under) in
+    let one = (header_format MOST_SCRIPT bytes fits).again 0 h middle split.0 early (header_fits s is.has_spelling) in
+    let two = (parts_format MOST_SCRIPT bytes h fits is.has_spelling.few).again middle s end split.1 under (parts_fit s is.has_spelling is.fields) in
     rw (one, two, eq-eqb end h.len ends) refl
 
 -- ---- answers
 
-pub answer_found : (bytes : List ℕ) (r : Result (Script × ℕ) NotRead) → IsBytes bytes → Gives (λ x. x) r (script_at most_script bytes) → IfOk r (λ read. IsScript bytes read.0 read.1)
+pub answer_found : (bytes : List ℕ) (r : Result (Script × ℕ) NotRead) → IsBytes bytes → Gives (λ x. x) r (script_at MOST_SCRIPT bytes) → IfOk r (λ read. IsScript bytes read.0 read.1)
 answer_found bytes (Ok x) fits given = script_found bytes x.0 x.1 fits given
 answer_found bytes (Err e) fits given = tt
 
@@ -230,8 +239,8 @@ not_long false f r s e = e
 pub whole_found : (bytes : List ℕ) (s : Script) → IsBytes bytes → whole_at bytes ≡ Ok s → IsWhole bytes s
 unfolding whole_at
 whole_found bytes s fits e =
-    let r = not_long (ltb most_script (length bytes)) _ (to_the_end bytes (script_at most_script bytes)) s e in
-    let is = script_found bytes s (length bytes) fits (to_the_end_ok bytes (script_at most_script bytes) s r) in
+    let r = not_long (ltb MOST_SCRIPT (length bytes)) _ (to_the_end bytes (script_at MOST_SCRIPT bytes)) s e in
+    let is = script_found bytes s (length bytes) fits (to_the_end_ok bytes (script_at MOST_SCRIPT bytes) s r) in
     let len : length bytes ≡ length (spelling s) = omega (arith, is.stands.ends) in
     record { has_spelling = is.has_spelling; fields = is.fields; spelled = sym (take_all (length (spelling s)) bytes (omega (arith, len))) ∙ is.stands.there }
 
@@ -243,7 +252,7 @@ whole_read bytes s fits is =
     let stands : Stands bytes 0 (spelling s) (length bytes) = record { there = there; ends = omega (arith, len); within = omega arith } in
     let read = script_read bytes s (length bytes) fits (record { has_spelling = is.has_spelling; fields = is.fields; stands = stands }) in
     let whole : length (spelling s) ≡ header_len + length (parts s) = length-append (header_spelling s) (parts s) in
-    let short : ltb most_script (length bytes) ≡ false = le-ltb _ _ (omega (arith, len, whole, is.has_spelling.short)) in
+    let short : ltb MOST_SCRIPT (length bytes) ≡ false = le-ltb _ _ (omega (arith, len, whole, is.has_spelling.short)) in
     rw (short, read) (rw (eq-eqb (length bytes) (length bytes) refl) refl)
 
 pub whole_answer : (bytes : List ℕ) (r : Result Script NotRead) → IsBytes bytes → Gives (λ x. x) r (whole_at bytes) → IfOk r (λ s. IsWhole bytes s)
@@ -260,7 +269,7 @@ no_script bytes s fits is = ap (λ (x : Result Script Fault). fault_of x) (whole
 
 pub front_has_no_fault : (bytes : List ℕ) → IsBytes bytes → bad_script bytes ≡ None → (s : Script) × (end : ℕ) × IsScript bytes s end
 front_has_no_fault bytes fits e =
-    let v = fault_or_value (script_at most_script bytes) e in
+    let v = fault_or_value (script_at MOST_SCRIPT bytes) e in
     (v.0.0, v.0.1, script_found bytes v.0.0 v.0.1 fits v.1)
 
 pub front_has_no_script : (bytes : List ℕ) (s : Script) (end : ℕ) → IsBytes bytes → IsScript bytes s end → bad_script bytes ≡ None
@@ -268,10 +277,10 @@ front_has_no_script bytes s end fits is = ap (λ (x : Read Script). fault_of x) 
 
 -- ---- what can be written is short
 
-pub few_turns : (s : Script) → HasSpelling s → length s.turns ≤ most_script
+pub few_turns : (s : Script) → HasSpelling s → length s.turns ≤ MOST_SCRIPT
 few_turns s has = let lengths = part_lengths s in omega (arith, lengths.turns, has.short)
 
-pub few_commands : (s : Script) → HasSpelling s → AllByRecursion (λ cs. length cs ≤ most_script) s.commands
+pub few_commands : (s : Script) → HasSpelling s → AllByRecursion (λ cs. length cs ≤ MOST_SCRIPT) s.commands
 few_commands s has =
     let lengths = part_lengths s in
-    each (λ cs. length cs ≤ length (parts s)) (λ cs. length cs ≤ most_script) (λ cs k. omega (arith, k, has.short)) s.commands (short_lists (length (parts s)) s.commands lengths.lists)
+    each (λ cs. length cs ≤ length (parts s)) (λ cs. length cs ≤ MOST_SCRIPT) (λ cs k. omega (arith, k, has.short)) s.commands (short_lists (length (parts s)) s.commands has.commands lengths.lists)

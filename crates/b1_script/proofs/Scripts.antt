@@ -9,6 +9,7 @@ use Rattle.std.proofs.lemmas.List.Concat.{flat_map-cons}
 use Rattle.b1_errs.specs.declared.Cause.TheVariants as causes
 use Rattle.b1_errs.specs.declared.NotRead.{NotRead}
 use Rattle.b1_model.specs.declared.commands.Command.{Command}
+use Rattle.b1_model.specs.declared.limits.TheConstants.{CLOCK_LIMIT, MOST_FILE_PEERS, MOST_POOL}
 use Rattle.b1_model.specs.declared.naming.Limits.{Limits}
 use Rattle.b1_model.specs.declared.naming.Opening.{Opening}
 use Rattle.b1_model.specs.declared.naming.PeerSpec.{PeerSpec}
@@ -22,7 +23,7 @@ use Rattle.b1_records.proofs.Formats.{IsBytes, IsFormat, bind_ok, guard_ok, pass
 use Rattle.b1_records.proofs.Records.{zero_format, both_true, command_format, Fits}
 use Rattle.b1_script.specs.declared.header.Header.{Header}
 use Rattle.b1_script.specs.declared.script.Script.{Script}
-use Rattle.b1_script.specs.Spelling.{most_script, header_len, peer_spelling, wire_spelling, commands_spelling, pad_spelling, parts, header_spelling, spelling, HasSpelling, IsSpec, IsWire, HasFields, IsScript}
+use Rattle.b1_script.specs.Spelling.{header_len, peer_spelling, wire_spelling, commands_spelling, pad_spelling, parts, header_spelling, spelling, HasSpelling, IsSpec, IsWire, HasFields, IsScript}
 use Rattle.b1_script.specs.Reading.{magic_number, is_first_clock, is_pool, gives_foreign, magic_at, version_at, peer_count_at, clock_at, header_at, pool_at, peer_at, peers_at, peer_number_at, other_number_at, wire_at, wires_at, command_list_at, commands_at, lists_at, turns_at, pad_at, parts_at, script_at, whole_at, to_the_end, len_place}
 
 both_are : (a b : Bool) → a ≡ true → b ≡ true → (a && b) ≡ true
@@ -45,28 +46,28 @@ version_format limit bytes fits =
     (λ n h. refl) (λ n h. eqb-true n 1 h.0) (λ n h. rw h (refl, omega arith))
 
 abbrev IsPeerCount : ℕ → Type 0
-IsPeerCount n = (1 ≤ n) × (n ≤ 64)
+IsPeerCount n = (1 ≤ n) × (n ≤ MOST_FILE_PEERS)
 
 peer_count_format : (limit : ℕ) (bytes : List ℕ) → IsBytes bytes → IsFormat limit bytes (peer_count_at limit bytes) u32_bytes IsPeerCount
 unfolding peer_count_at
 peer_count_format limit bytes fits =
-    convert limit bytes _ u32_bytes u32_bytes (λ n. ((leb 1 n && leb n 64) ≡ true) × Is32 n) IsPeerCount
-    (checked_format limit bytes (λ n. leb 1 n && leb n 64) causes.Count (number_at limit bytes) u32_bytes Is32 (number_format limit bytes fits))
+    convert limit bytes _ u32_bytes u32_bytes (λ n. ((leb 1 n && leb n MOST_FILE_PEERS) ≡ true) × Is32 n) IsPeerCount
+    (checked_format limit bytes (λ n. leb 1 n && leb n MOST_FILE_PEERS) causes.Count (number_at limit bytes) u32_bytes Is32 (number_format limit bytes fits))
     (λ n h. refl)
-    (λ n h. let b = both_true (leb 1 n) (leb n 64) h.0 in (leb-true 1 n b.0, leb-true n 64 b.1))
-    (λ n h. (both_are (leb 1 n) (leb n 64) (le-leb 1 n h.0) (le-leb n 64 h.1), omega (arith, h.1)))
+    (λ n h. let b = both_true (leb 1 n) (leb n MOST_FILE_PEERS) h.0 in (leb-true 1 n b.0, leb-true n MOST_FILE_PEERS b.1))
+    (λ n h. (both_are (leb 1 n) (leb n MOST_FILE_PEERS) (le-leb 1 n h.0) (le-leb n MOST_FILE_PEERS h.1), omega (arith, h.1)))
 
 abbrev IsClock : ℕ → Type 0
-IsClock n = (n % 2 ≡ 0) × (n ≤ 2 ^ 62)
+IsClock n = (n % 2 ≡ 0) × (n ≤ CLOCK_LIMIT)
 
 clock_format : (limit : ℕ) (bytes : List ℕ) → IsBytes bytes → IsFormat limit bytes (clock_at limit bytes) u64_bytes IsClock
 unfolding clock_at
 clock_format limit bytes fits =
-    convert limit bytes _ u64_bytes u64_bytes (λ n. ((eqb (n % 2) 0 && leb n (2 ^ 62)) ≡ true) × Is64 n) IsClock
+    convert limit bytes _ u64_bytes u64_bytes (λ n. ((eqb (n % 2) 0 && leb n CLOCK_LIMIT) ≡ true) × Is64 n) IsClock
     (checked_format limit bytes is_first_clock causes.Range (long_number_at limit bytes) u64_bytes Is64 (long_number_format limit bytes fits))
     (λ n h. refl)
-    (λ n h. let b = both_true (eqb (n % 2) 0) (leb n (2 ^ 62)) h.0 in (eqb-true (n % 2) 0 b.0, leb-true n (2 ^ 62) b.1))
-    (λ n h. (both_are (eqb (n % 2) 0) (leb n (2 ^ 62)) (rw h.0 refl) (le-leb n (2 ^ 62) h.1), omega (arith, h.1)))
+    (λ n h. let b = both_true (eqb (n % 2) 0) (leb n CLOCK_LIMIT) h.0 in (eqb-true (n % 2) 0 b.0, leb-true n CLOCK_LIMIT b.1))
+    (λ n h. (both_are (eqb (n % 2) 0) (leb n CLOCK_LIMIT) (rw h.0 refl) (le-leb n CLOCK_LIMIT h.1), omega (arith, h.1)))
 
 abbrev header8 : ℕ → List ℕ → ℕ → ℕ → ℕ → ℕ → ℕ → ℕ → Read Header
 header8 limit bytes peers clock wires turns len at = zero_at limit bytes at >>= λ end. Ok (record { peers = peers; first_clock = clock; wires = wires; turns = turns; len = len }, end.1)
@@ -177,14 +178,14 @@ header_format limit bytes fits =
 pool_format : (limit : ℕ) (bytes : List ℕ) → IsBytes bytes → IsFormat limit bytes (pool_at limit bytes) u32_bytes IsPool
 unfolding pool_at
 pool_format limit bytes fits =
-    convert limit bytes _ u32_bytes u32_bytes (λ n. ((eqb (n % 8) 0 && leb 8 n && leb n 4194304) ≡ true) × Is32 n) IsPool
+    convert limit bytes _ u32_bytes u32_bytes (λ n. ((eqb (n % 8) 0 && leb 8 n && leb n MOST_POOL) ≡ true) × Is32 n) IsPool
     (checked_format limit bytes is_pool causes.Range (number_at limit bytes) u32_bytes Is32 (number_format limit bytes fits))
     (λ n h. refl)
     (λ n h.
-    let b = both_true (eqb (n % 8) 0 && leb 8 n) (leb n 4194304) h.0 in
+    let b = both_true (eqb (n % 8) 0 && leb 8 n) (leb n MOST_POOL) h.0 in
     let d = both_true (eqb (n % 8) 0) (leb 8 n) b.0 in
-    record { eighths = eqb-true (n % 8) 0 d.0; least = leb-true 8 n d.1; most = leb-true n 4194304 b.1 })
-    (λ n h. (both_are (eqb (n % 8) 0 && leb 8 n) (leb n 4194304) (both_are (eqb (n % 8) 0) (leb 8 n) (rw h.eighths refl) (le-leb 8 n h.least)) (le-leb n 4194304 h.most), omega (arith, h.most)))
+    record { eighths = eqb-true (n % 8) 0 d.0; least = leb-true 8 n d.1; most = leb-true n MOST_POOL b.1 })
+    (λ n h. (both_are (eqb (n % 8) 0 && leb 8 n) (leb n MOST_POOL) (both_are (eqb (n % 8) 0) (leb 8 n) (rw h.eighths refl) (le-leb 8 n h.least)) (le-leb n MOST_POOL h.most), omega (arith, h.most)))
 
 abbrev peer6 : ℕ → List ℕ → ℕ → ℕ → ℕ → ℕ → ℕ → ℕ → Read PeerSpec
 peer6 limit bytes user pool entries size handles at = zero_at limit bytes at >>= λ end. Ok (record { user = user; pool = pool; limits = record { entries = entries; bytes = size; handles = handles } }, end.1)
@@ -263,14 +264,14 @@ peer_format limit bytes fits =
 
 -- ---- wires
 
-pub peer_number_format : (limit : ℕ) (bytes : List ℕ) (n : ℕ) → IsBytes bytes → n ≤ 64 → IsFormat limit bytes (peer_number_at limit bytes n) u32_bytes (λ p. p < n)
+pub peer_number_format : (limit : ℕ) (bytes : List ℕ) (n : ℕ) → IsBytes bytes → n ≤ MOST_FILE_PEERS → IsFormat limit bytes (peer_number_at limit bytes n) u32_bytes (λ p. p < n)
 unfolding peer_number_at
 peer_number_format limit bytes n fits few =
     convert limit bytes _ u32_bytes u32_bytes (λ p. (ltb p n ≡ true) × Is32 p) (λ p. p < n)
     (checked_format limit bytes (λ p. ltb p n) causes.Range (number_at limit bytes) u32_bytes Is32 (number_format limit bytes fits))
     (λ p h. refl) (λ p h. ltb-true p n h.0) (λ p h. (lt-ltb p n h, omega (arith, h, few)))
 
-other_number_format : (limit : ℕ) (bytes : List ℕ) (n from : ℕ) → IsBytes bytes → n ≤ 64 → IsFormat limit bytes (other_number_at limit bytes n from) u32_bytes (λ p. (p < n) × (p ≢ from))
+other_number_format : (limit : ℕ) (bytes : List ℕ) (n from : ℕ) → IsBytes bytes → n ≤ MOST_FILE_PEERS → IsFormat limit bytes (other_number_at limit bytes n from) u32_bytes (λ p. (p < n) × (p ≢ from))
 unfolding other_number_at
 other_number_format limit bytes n from fits few =
     convert limit bytes _ u32_bytes u32_bytes (λ p. (not (eqb p from) ≡ true) × (p < n)) (λ p. (p < n) × (p ≢ from))
@@ -312,7 +313,7 @@ wfits2 n held from w = ((w.to < n) × (w.to ≢ from)) × wfits3 held from w.to 
 abbrev pub WireFits : ℕ → List Wire → Wire → Type 0
 WireFits n held w = CanWire n held w × IsWire w
 
-wire_format : (limit : ℕ) (bytes : List ℕ) (n : ℕ) (held : List Wire) → IsBytes bytes → n ≤ 64 → IsFormat limit bytes (wire_at limit bytes n held) wire_spelling (WireFits n held)
+wire_format : (limit : ℕ) (bytes : List ℕ) (n : ℕ) (held : List Wire) → IsBytes bytes → n ≤ MOST_FILE_PEERS → IsFormat limit bytes (wire_at limit bytes n held) wire_spelling (WireFits n held)
 unfolding wire_at
 wire_format limit bytes n held fits few =
     let f3 = λ (from to : ℕ). seq_format {A = ℕ} {B = Wire} limit bytes (λ at. checked (λ number. gives_foreign held (record { from = from; to = to; number = number })) causes.Wiring at (long_number_at limit bytes at)) (λ number at. Ok (record { from = from; to = to; number = number }, at)) u64_bytes
@@ -363,7 +364,7 @@ module _ (limit : ℕ) (bytes : List ℕ) (n : ℕ) (fits : IsBytes bytes) (few 
       let rest = wires_again count (after_wire held w) ws (omega (arith, len)) (at + length (wire_spelling w)) end k.1 by (h.0.1, h.1.1) in
       rw (one, rest) refl
 
-pub wires_format : (limit : ℕ) (bytes : List ℕ) (n count : ℕ) → IsBytes bytes → n ≤ 64 → IsFormat limit bytes (wires_at limit bytes n [] count) (flat_map wire_spelling) (λ ws. (length ws ≡ count) × WiresFit n [] ws)
+pub wires_format : (limit : ℕ) (bytes : List ℕ) (n count : ℕ) → IsBytes bytes → n ≤ MOST_FILE_PEERS → IsFormat limit bytes (wires_at limit bytes n [] count) (flat_map wire_spelling) (λ ws. (length ws ≡ count) × WiresFit n [] ws)
 wires_format limit bytes n count fits few = record {
   takes = wires_takes limit bytes n fits few count [];
   again = λ at ws end s by h. wires_again limit bytes n fits few count [] ws h.0 at end s by h.1;
@@ -397,7 +398,7 @@ lists_format : (limit : ℕ) (bytes : List ℕ) (n : ℕ) → IsBytes bytes → 
 unfolding lists_at
 lists_format limit bytes n fits = many_format {A = List Command} limit bytes (commands_at limit bytes) commands_spelling CommandsFit (commands_format limit bytes fits) n
 
-turns_format : (limit : ℕ) (bytes : List ℕ) (n count : ℕ) → IsBytes bytes → n ≤ 64 → IsFormat limit bytes (turns_at limit bytes n count) (flat_map u32_bytes) (λ ts. (length ts ≡ count) × AllByRecursion (λ p. p < n) ts)
+turns_format : (limit : ℕ) (bytes : List ℕ) (n count : ℕ) → IsBytes bytes → n ≤ MOST_FILE_PEERS → IsFormat limit bytes (turns_at limit bytes n count) (flat_map u32_bytes) (λ ts. (length ts ≡ count) × AllByRecursion (λ p. p < n) ts)
 unfolding turns_at
 turns_format limit bytes n count fits few = many_format {A = ℕ} limit bytes (peer_number_at limit bytes n) u32_bytes (λ p. p < n) (peer_number_format limit bytes n fits few) count
 
@@ -416,7 +417,7 @@ pad_format limit bytes turns fits = odd_format limit bytes (eqb (turns % 2) 1) f
 -- ---- the parts
 
 abbrev script_of : Header → List PeerSpec → List Wire → List (List Command) → List ℕ → Script
-script_of h peers wires commands turns = record { opening = record { first_clock = h.first_clock; peers = peers; wires = wires }; commands = commands; turns = turns }
+script_of h peers wires commands turns = record { opening = record { first_clock = h.first_clock; peers = peers; wires = wires }; commands = commands; turns = turns; cookies = None }
 
 abbrev parts5 : ℕ → List ℕ → Header → List PeerSpec → List Wire → List (List Command) → List ℕ → ℕ → Read Script
 parts5 limit bytes h peers wires commands turns at = pad_at limit bytes h.turns at >>= λ end. Ok (script_of h peers wires commands turns, end.1)
@@ -465,6 +466,7 @@ pub record PartsFit (h : Header) (s : Script) : Type 0 where
   pub lists : AllByRecursion CommandsFit s.commands
   pub turn_count : length s.turns ≡ h.turns
   pub turns : AllByRecursion (λ p. p < h.peers) s.turns
+  pub cookies : s.cookies ≡ None
 
 parts_text : (h : Header) (s : Script) → length s.turns ≡ h.turns → flat_map peer_spelling s.opening.peers ++ stext2 h s ≡ parts s
 parts_text h s e =
@@ -476,10 +478,12 @@ parts_text h s e =
     ap (λ (x : List ℕ). peers ++ (wires ++ (lists ++ (turns ++ x)))) (append-nil (pad_spelling h.turns) ∙ ap pad_spelling (sym e))
     ∙ (simp append_assoc)
 
-script_is : (h : Header) (s : Script) → s.opening.first_clock ≡ h.first_clock → s ≡ script_of h s.opening.peers s.opening.wires s.commands s.turns
-script_is h s e = ap (λ (clock : ℕ). record { opening = record { first_clock = clock; peers = s.opening.peers; wires = s.opening.wires }; commands = s.commands; turns = s.turns }) e
+script_is : (h : Header) (s : Script) → s.opening.first_clock ≡ h.first_clock → s.cookies ≡ None → s ≡ script_of h s.opening.peers s.opening.wires s.commands s.turns
+script_is h s e none =
+    ap (λ (clock : ℕ). record s { opening = record { first_clock = clock; peers = s.opening.peers; wires = s.opening.wires } }) e
+    ∙ ap (λ (cookies : Option (List (List ℕ))). record (script_of h s.opening.peers s.opening.wires s.commands s.turns) { cookies = cookies }) none
 
-pub parts_format : (limit : ℕ) (bytes : List ℕ) (h : Header) → IsBytes bytes → h.peers ≤ 64 → IsFormat limit bytes (parts_at limit bytes h) parts (PartsFit h)
+pub parts_format : (limit : ℕ) (bytes : List ℕ) (h : Header) → IsBytes bytes → h.peers ≤ MOST_FILE_PEERS → IsFormat limit bytes (parts_at limit bytes h) parts (PartsFit h)
 unfolding parts_at
 parts_format limit bytes h fits few =
     let f5 = λ (peers : List PeerSpec) (wires : List Wire) (commands : List (List Command)) (turns : List ℕ). seq_format {A = ℕ} {B = Script} limit bytes (pad_at limit bytes h.turns) (λ z at. Ok (script_of h peers wires commands turns, at)) (λ z. pad_spelling h.turns) (λ z. z ≡ 0)
@@ -499,5 +503,5 @@ parts_format limit bytes h fits few =
     (peers_format limit bytes h.peers fits) (λ peers a. f2 peers) (λ peers s a k. ap (λ (x : Script). x.opening.peers) k.1.1.1.1) in
     convert {A = Script} limit bytes (parts_at limit bytes h) _ parts _ (PartsFit h) f1
     (λ s a. parts_text h s a.1.1.1.0.0)
-    (λ s a. record { clock = ap (λ (x : Script). x.opening.first_clock) a.1.1.1.1.1; peer_count = a.0.0; peers = a.0.1; wire_count = a.1.0.0; wires = a.1.0.1; list_count = a.1.1.0.0; lists = a.1.1.0.1; turn_count = a.1.1.1.0.0; turns = a.1.1.1.0.1 })
-    (λ s a. ((a.peer_count, a.peers), ((a.wire_count, a.wires), ((a.list_count, a.lists), ((a.turn_count, a.turns), (refl, script_is h s a.clock))))))
+    (λ s a. record { clock = ap (λ (x : Script). x.opening.first_clock) a.1.1.1.1.1; peer_count = a.0.0; peers = a.0.1; wire_count = a.1.0.0; wires = a.1.0.1; list_count = a.1.1.0.0; lists = a.1.1.0.1; turn_count = a.1.1.1.0.0; turns = a.1.1.1.0.1; cookies = ap (λ (x : Script). x.cookies) a.1.1.1.1.1 })
+    (λ s a. ((a.peer_count, a.peers), ((a.wire_count, a.wires), ((a.list_count, a.lists), ((a.turn_count, a.turns), (refl, script_is h s a.clock a.cookies))))))

@@ -1,22 +1,23 @@
 -- Reading a script from left to right, with the first rule that is broken.
-use Rattle.std.specs.Prelude.{ℕ, zero, suc, ◌+◌, ◌%◌, ◌^◌, Bool, true, false, ◌&&◌, ◌==◌, not, nat_lt, nat_le, if◌then◌else◌, List, [], ◌∷◌, length, Option, Some, None, Result, Ok, Err}
+use Rattle.std.specs.Prelude.{ℕ, zero, suc, ◌+◌, ◌%◌, Bool, true, false, ◌&&◌, ◌==◌, not, nat_lt, nat_le, if◌then◌else◌, List, [], ◌∷◌, length, Option, Some, None, Result, Ok, Err}
 use Rattle.std.specs.Option.{option_map_or}
 use Rattle.b1_errs.specs.declared.Cause.TheVariants as causes
 use Rattle.b1_model.specs.declared.commands.Command.{Command}
+use Rattle.b1_model.specs.declared.limits.TheConstants.{CLOCK_LIMIT, MOST_FILE_PEERS, MOST_POOL, MOST_SCRIPT}
 use Rattle.b1_model.specs.declared.naming.PeerSpec.{PeerSpec}
 use Rattle.b1_model.specs.declared.naming.Wire.{Wire}
 use Rattle.b1_model.specs.Opening.{from_owner, after_wire}
 use Rattle.b1_records.specs.Reading.{◌>>=◌, Read, Fault, fault_of, checked, many, number_at, long_number_at, zero_at, command_at}
 use Rattle.b1_script.specs.declared.header.Header.{Header}
 use Rattle.b1_script.specs.declared.script.Script.{Script}
-use Rattle.b1_script.specs.Spelling.{most_script, header_len}
+use Rattle.b1_script.specs.Spelling.{header_len}
 
 -- the number whose bytes are `BUS1SCR1`
 abbrev pub magic_number : ℕ
 magic_number = 0x3152_4353_3153_5542
 
 abbrev pub is_first_clock : ℕ → Bool
-is_first_clock n = (n % 2 == 0) && nat_le n (2 ^ 62)
+is_first_clock n = (n % 2 == 0) && nat_le n CLOCK_LIMIT
 
 unfoldable pub magic_at : ℕ → List ℕ → ℕ → Read ℕ
 magic_at limit bytes at = checked (λ n. n == magic_number) causes.Magic at (long_number_at limit bytes at)
@@ -25,7 +26,7 @@ unfoldable pub version_at : ℕ → List ℕ → ℕ → Read ℕ
 version_at limit bytes at = checked (λ n. n == 1) causes.Version at (number_at limit bytes at)
 
 unfoldable pub peer_count_at : ℕ → List ℕ → ℕ → Read ℕ
-peer_count_at limit bytes at = checked (λ n. nat_le 1 n && nat_le n 64) causes.Count at (number_at limit bytes at)
+peer_count_at limit bytes at = checked (λ n. nat_le 1 n && nat_le n MOST_FILE_PEERS) causes.Count at (number_at limit bytes at)
 
 unfoldable pub clock_at : ℕ → List ℕ → ℕ → Read ℕ
 clock_at limit bytes at = checked is_first_clock causes.Range at (long_number_at limit bytes at)
@@ -43,7 +44,7 @@ header_at limit bytes at = do
   Ok (record { peers = peers.0; first_clock = clock.0; wires = wires.0; turns = turns.0; len = len.0 }, end.1)
 
 abbrev pub is_pool : ℕ → Bool
-is_pool n = (n % 8 == 0) && nat_le 8 n && nat_le n 4194304
+is_pool n = (n % 8 == 0) && nat_le 8 n && nat_le n MOST_POOL
 
 unfoldable pub pool_at : ℕ → List ℕ → ℕ → Read ℕ
 pool_at limit bytes at = checked is_pool causes.Range at (number_at limit bytes at)
@@ -115,7 +116,7 @@ parts_at limit bytes header at = do
   commands ← lists_at limit bytes header.peers wires.1
   turns ← turns_at limit bytes header.peers header.turns commands.1
   end ← pad_at limit bytes header.turns turns.1
-  Ok (record { opening = record { first_clock = header.first_clock; peers = peers.0; wires = wires.0 }; commands = commands.0; turns = turns.0 }, end.1)
+  Ok (record { opening = record { first_clock = header.first_clock; peers = peers.0; wires = wires.0 }; commands = commands.0; turns = turns.0; cookies = None }, end.1)
 
 -- the place of the length in the header
 abbrev pub len_place : ℕ
@@ -130,7 +131,7 @@ script_at limit bytes = do
 
 -- the first rule broken by a script at the front of the bytes, where one is
 abbrev pub bad_script : List ℕ → Option Fault
-bad_script bytes = fault_of (script_at most_script bytes)
+bad_script bytes = fault_of (script_at MOST_SCRIPT bytes)
 
 -- all of the bytes were read
 abbrev pub to_the_end : List ℕ → Read Script → Result Script Fault
@@ -140,8 +141,8 @@ to_the_end bytes (Err fault) = Err fault
 -- the script that all of the bytes are: that they are too long is judged first, and that bytes are left over last
 unfoldable pub whole_at : List ℕ → Result Script Fault
 whole_at bytes =
-    if nat_lt most_script (length bytes) then Err (most_script, causes.Long)
-    else to_the_end bytes (script_at most_script bytes)
+    if nat_lt MOST_SCRIPT (length bytes) then Err (MOST_SCRIPT, causes.Long)
+    else to_the_end bytes (script_at MOST_SCRIPT bytes)
 
 -- the first rule broken by bytes that are to be one script, where one is
 abbrev pub bad : List ℕ → Option Fault

@@ -1,18 +1,15 @@
 -- Script files: the one spelling of each script.
-use Rattle.std.specs.Prelude.{◌≡◌, ℕ, ◌+◌, ◌%◌, ◌<◌, ◌≤◌, ◌==◌, if◌then◌else◌, List, [], ◌++◌, length, codes}
+use Rattle.std.specs.Prelude.{◌≡◌, ℕ, ◌+◌, ◌%◌, ◌<◌, ◌≤◌, ◌==◌, if◌then◌else◌, List, [], ◌++◌, length, None, codes}
 use Rattle.std.specs.List.{flat_map, AllByRecursion}
 use Rattle.b1_model.specs.declared.commands.Command.{Command}
 use Rattle.b1_model.specs.declared.naming.PeerSpec.{PeerSpec}
 use Rattle.b1_model.specs.declared.naming.Wire.{Wire}
+use Rattle.b1_model.specs.declared.limits.TheConstants.{MOST_FILE_PEERS, MOST_SCRIPT}
 use Rattle.b1_model.specs.Opening.{IsOpening}
 use Rattle.b1_wire.specs.Numbers.{u32_bytes, u64_bytes}
 use Rattle.b1_records.specs.Spelling.{IsWithin, Is32, Is64, HasNumbers, AreLimits, Stands}
 use Rattle.b1_records.specs.Spelling as records
 use Rattle.b1_script.specs.declared.script.Script.{Script}
-
--- how many bytes a script has at most
-abbrev pub most_script : ℕ
-most_script = 16777216
 
 -- how many bytes stand before the first peer
 abbrev pub header_len : ℕ
@@ -57,14 +54,16 @@ header_spelling s = start_spelling s ++ sizes_spelling s
 abbrev pub spelling : Script → List ℕ
 spelling s = header_spelling s ++ parts s
 
--- what a script file can say: an opening that a bus can begin with, a list of commands for each peer, each command within
--- a record's limits, turns of peers, and not too much of all
+-- what a script file can say: an opening that a bus can begin with, of few peers, a list of commands for each peer, each
+-- command within a record's limits, turns of peers, no cookies, and not too much of all
 pub record HasSpelling (s : Script) : Type 0 where
   pub opening : IsOpening s.opening
+  pub few : length s.opening.peers ≤ MOST_FILE_PEERS
   pub lists : length s.commands ≡ length s.opening.peers
   pub commands : AllByRecursion (AllByRecursion IsWithin) s.commands
   pub turns : AllByRecursion (λ p. p < length s.opening.peers) s.turns
-  pub short : header_len + length (parts s) ≤ most_script
+  pub cookies : s.cookies ≡ None
+  pub short : header_len + length (parts s) ≤ MOST_SCRIPT
 
 pub record IsSpec (p : PeerSpec) : Type 0 where
   pub user : Is32 p.user

@@ -3,13 +3,11 @@ ghost use Rattle.b1_records.specs.Reading.{Gives};
 ghost use Rattle.b1_script.specs.Reading.{magic_number, magic_at, version_at, peer_count_at, clock_at, header_at, is_first_clock};
 
 use b1_errs::{Cause, NotRead};
+use b1_model::{CLOCK_LIMIT, MOST_FILE_PEERS};
 use b1_records::fields::{long_number, number, zero};
 
 /// The number whose bytes are `BUS1SCR1`.
 pub const MAGIC: u64 = 0x3152_4353_3153_5542;
-
-/// The greatest first clock.
-const MOST_CLOCK: u64 = 1 << 62;
 
 /// What a script file says of its parts.
 #[derive(Clone, Copy, Debug)]
@@ -26,11 +24,11 @@ pub struct Header {
     pub len: u32,
 }
 
-/// Whether a clock may be the first: even, and at most 2^62.
+/// Whether a clock may be the first: even, and at most `CLOCK_LIMIT`.
 fn may_be_first(clock: u64) -> bool
     ensures { result ≡ is_first_clock clock }
 {
-    clock % 2 == 0 && clock <= MOST_CLOCK
+    clock % 2 == 0 && clock <= CLOCK_LIMIT
 }
 
 /// The end of the format's name.
@@ -63,13 +61,13 @@ fn version(bytes: &[u8], at: usize, limit: usize) -> Result<usize, NotRead>
     Ok(end)
 }
 
-/// How many peers there are, 1 to 64.
+/// How many peers there are, 1 to `MOST_FILE_PEERS`.
 #[tactic(auto, unfolding(crate::specs::Reading::peer_count_at))]
 fn peer_count(bytes: &[u8], at: usize, limit: usize) -> Result<(u32, usize), NotRead>
     ensures { Gives (λ x. x) result (peer_count_at limit bytes.now at) }
 {
     let (count, end) = number(bytes, at, limit)?;
-    if count < 1 || count > 64 {
+    if count < 1 || count as usize > MOST_FILE_PEERS {
         return Err(NotRead::Bad {
             at,
             cause: Cause::Count,
@@ -78,7 +76,7 @@ fn peer_count(bytes: &[u8], at: usize, limit: usize) -> Result<(u32, usize), Not
     Ok((count, end))
 }
 
-/// Every peer's first clock, even and at most 2^62.
+/// Every peer's first clock, even and at most `CLOCK_LIMIT`.
 #[tactic(auto, unfolding(crate::specs::Reading::clock_at))]
 fn first_clock(bytes: &[u8], at: usize, limit: usize) -> Result<(u64, usize), NotRead>
     ensures { Gives (λ x. x) result (clock_at limit bytes.now at) }

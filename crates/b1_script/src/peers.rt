@@ -3,14 +3,11 @@ ghost use Rattle.b1_records.specs.Reading.{Gives};
 ghost use Rattle.b1_script.specs.Reading.{is_pool, pool_at, peer_at, peers_at};
 
 use b1_errs::{Cause, NotRead};
-use b1_model::{Limits, PeerSpec, Peers};
+use b1_model::{Limits, MOST_POOL, PeerSpec, Peers};
 use b1_records::fields::{number, zero};
 use std::alloc::Global;
 
-/// The greatest size of a pool, in bytes.
-const MOST_POOL: u32 = 4_194_304;
-
-/// Whether a pool may have this size: a multiple of 8 from 8 on.
+/// Whether a pool may have this size: a multiple of 8 from 8 to `MOST_POOL`.
 fn may_be_pool(size: u32) -> bool
     ensures { result ≡ is_pool size }
 {

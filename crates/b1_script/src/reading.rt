@@ -4,7 +4,7 @@ ghost use Rattle.b1_records.specs.Reading.{Gives, IsFault};
 ghost use Rattle.b1_records.specs.Spelling.{IsByte};
 ghost use Rattle.b1_script.specs.declared.script.Script.{Script};
 ghost use Rattle.b1_script.specs.Reading.{parts_at, script_at, whole_at, bad_script, bad};
-ghost use Rattle.b1_script.specs.Spelling.{most_script, IsScript, IsWhole};
+ghost use Rattle.b1_script.specs.Spelling.{IsScript, IsWhole};
 
 use crate::header::{Header, read_header};
 use crate::lists::{pad_end, read_lists, read_turns};
@@ -12,11 +12,8 @@ use crate::peers::read_peers;
 use crate::script::Script;
 use crate::wires::read_wires;
 use b1_errs::{Cause, NotRead};
-use b1_model::Opening;
+use b1_model::{MOST_SCRIPT, Opening};
 use std::alloc::Global;
-
-/// How many bytes a script has at most.
-const MOST_SCRIPT: usize = 16_777_216;
 
 /// The place of the script's length in its header.
 const LEN_PLACE: usize = 32;
@@ -45,13 +42,14 @@ fn parts(
         opening,
         commands,
         turns,
+        cookies: None,
     };
     Ok((script, at))
 }
 
 #[tactic(auto, unfolding(crate::specs::Reading::script_at))]
 fn script(alloc: Global, bytes: &[u8]) -> Result<(Script, usize), NotRead>
-    ensures { Gives (λ x. x) result (script_at most_script bytes.now) }
+    ensures { Gives (λ x. x) result (script_at MOST_SCRIPT bytes.now) }
 {
     let (header, at) = read_header(bytes, 0, MOST_SCRIPT)?;
     let (script, end) = parts(alloc, bytes, &header, at, MOST_SCRIPT)?;
@@ -85,7 +83,7 @@ fn whole(alloc: Global, bytes: &[u8]) -> Result<Script, NotRead>
 }
 
 /// The script at the front of the bytes, and where it ends. Bytes may follow it: whether they may is the caller's to
-/// say. That a script has at most 16,777,216 bytes is judged field by field.
+/// say. That a script has at most `MOST_SCRIPT` bytes is judged field by field.
 pub fn read(alloc: Global, bytes: &[u8]) -> Result<(Script, usize), NotRead>
     // What is read is spelled there.
     ensures found { IfOk result (λ read. IsScript bytes.now read.0 read.1) }
@@ -97,7 +95,7 @@ pub fn read(alloc: Global, bytes: &[u8]) -> Result<(Script, usize), NotRead>
     script(alloc, bytes)
 }
 
-/// The script that the bytes are, with nothing before or behind it. Bytes past 16,777,216 are judged first, and bytes
+/// The script that the bytes are, with nothing before or behind it. Bytes past `MOST_SCRIPT` are judged first, and bytes
 /// behind the script last.
 pub fn read_whole(alloc: Global, bytes: &[u8]) -> Result<Script, NotRead>
     // The bytes are the spelling of what is read.

@@ -3,11 +3,8 @@ ghost use Rattle.std.specs.Option.{option_map};
 ghost use Rattle.b1_model.specs.Script.{data_of, data_receipts, resolved_handle, resolved_offset, resolved};
 ghost use Rattle.b1_script.specs.Resolving.{data_seen, list_seen};
 
-use b1_model::{Answer, Bytes, Call, Calls, Command, Nums, Receipt, SendCmd};
+use b1_model::{Answer, Bytes, Call, Calls, Command, INVALID, Nums, Receipt, SendCmd};
 use std::alloc::{AllocError, Global};
-
-/// The number that names nothing.
-const INVALID: u64 = u64::MAX;
 
 /// The offset of the slice and the handles of an answer that is a data receipt.
 fn data(answer: &Answer) -> Option<(u32, &[u64])>
@@ -113,6 +110,7 @@ pub fn resolve_after(
         Command::Disconnect => Ok(Command::Disconnect),
         Command::Query => Ok(Command::Query),
         Command::Reset { limits } => Ok(Command::Reset { limits: *limits }),
+        Command::Limit { limits } => Ok(Command::Limit { limits: *limits }),
         Command::Release { number } => Ok(Command::Release {
             number: resolve_handle(calls, *number),
         }),

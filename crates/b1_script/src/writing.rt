@@ -3,11 +3,11 @@ ghost use Rattle.std.specs.List.{flat_map, AllByRecursion};
 ghost use Rattle.b1_wire.specs.Numbers.{u32_bytes};
 ghost use Rattle.b1_records.specs.Spelling.{IsWithin};
 ghost use Rattle.b1_records.specs.Spelling as records;
-ghost use Rattle.b1_script.specs.Spelling.{most_script, header_len, peer_spelling, wire_spelling, commands_spelling, pad_spelling, parts, name_spelling, start_spelling, sizes_spelling, header_spelling, spelling, HasSpelling};
+ghost use Rattle.b1_script.specs.Spelling.{header_len, peer_spelling, wire_spelling, commands_spelling, pad_spelling, parts, name_spelling, start_spelling, sizes_spelling, header_spelling, spelling, HasSpelling};
 
 use crate::header::MAGIC;
 use crate::script::Script;
-use b1_model::{Command, Commands, PeerSpec, Wire};
+use b1_model::{Command, Commands, MOST_SCRIPT, PeerSpec, Wire};
 use b1_records::encode;
 use b1_wire::{put_u32, put_u64};
 use std::alloc::{AllocError, Global};
@@ -64,7 +64,7 @@ fn put_records(out: &mut Vec<u8>, commands: &[Command]) -> Result<(), AllocError
 
 fn put_commands(out: &mut Vec<u8>, commands: &[Command]) -> Result<(), AllocError>
     requires within { AllByRecursion IsWithin commands.now }
-    requires few { length commands.now ≤ most_script }
+    requires few { length commands.now ≤ MOST_SCRIPT }
     ensures { OnOk result (out.new.items ≡ out.old.items ++ commands_spelling commands.now) }
 {
     put_u32(out, commands.len() as u32)?;
@@ -74,7 +74,7 @@ fn put_commands(out: &mut Vec<u8>, commands: &[Command]) -> Result<(), AllocErro
 
 fn put_lists(out: &mut Vec<u8>, lists: &[Commands]) -> Result<(), AllocError>
     requires within { AllByRecursion (AllByRecursion IsWithin) lists.now }
-    requires few { AllByRecursion (λ commands. length commands ≤ most_script) lists.now }
+    requires few { AllByRecursion (λ commands. length commands ≤ MOST_SCRIPT) lists.now }
     ensures { OnOk result (out.new.items ≡ out.old.items ++ flat_map commands_spelling lists.now) }
 {
     for commands in lists {
@@ -153,7 +153,7 @@ fn put_header(out: &mut Vec<u8>, script: &Script, len: usize) -> Result<(), Allo
     put_sizes(out, script, len)
 }
 
-/// The bytes of a script. An error is want of memory.
+/// The bytes of a script without cookies, in which no PEER_RESET is without flush. An error is want of memory.
 pub fn write(alloc: Global, script: &Script) -> Result<Vec<u8>, AllocError>
     requires { HasSpelling script.now }
     ensures { IfOk result (λ out. out.items ≡ spelling script.now) }
