@@ -6,6 +6,3 @@ mod table;
 
 pub use b1_model::{Entry, Slot, Slots};
 pub use table::EntryTable;
-
-#[cfg(test)]
-mod tests;

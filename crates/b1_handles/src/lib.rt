@@ -9,6 +9,3 @@ mod places;
 mod table;
 
 pub use table::{HandleTable, NoHandle};
-
-#[cfg(test)]
-mod tests;

@@ -4,7 +4,5 @@
 mod cells;
 mod heap;
 mod sift;
-#[cfg(test)]
-mod tests;
 
 pub use heap::IndexedHeap;

@@ -3,6 +3,7 @@ use Rattle.std.proofs.Common.{◌≡◌, ◌≢◌, ◌⊎◌, refl, sym, ap, �
 use Rattle.std.proofs.lemmas.Bool.{eqb-true, eq-eqb}
 use Rattle.std.proofs.lemmas.List.Sums.{sum_by-cons}
 use native.Mathlib.Omega.{arith}
+use Rattle.b1_model.specs.declared.limits.TheConstants.{MOST_HANDLES, MOST_PAYLOAD}
 use Rattle.b1_model.specs.declared.naming.Key.{Key}
 use Rattle.b1_model.specs.declared.naming.NodeRef.{NodeRef}
 use Rattle.b1_model.specs.declared.parts.Slot.{Slot}
@@ -68,7 +69,7 @@ module _ (me : ℕ) (nodes : List NodePart) (slices : List Slice) (queue : Queue
   -- ---- a message is staged
 
   module _ (k : Key) (origin user index serial here : ℕ) (payload : List ℕ) (carries : List NodeRef) (new_slices : List Slice)
-      (odd : is_odd k.stamp ≡ true) (made : serial < length nodes) (short : length payload ≤ 65536) (few : length carries ≤ 64)
+      (odd : is_odd k.stamp ≡ true) (made : serial < length nodes) (short : length payload ≤ MOST_PAYLOAD) (few : length carries ≤ MOST_HANDLES)
       (unstaged : find (is_stage k.origin k.index) queue ≡ None) (takes : Takes here (slice_len (length payload) (length carries)) slices new_slices) where
     abbrev staged_message : Entry
     staged_message = Message origin user index serial here (length payload) carries (map (λ node. Unattached) carries) [] payload

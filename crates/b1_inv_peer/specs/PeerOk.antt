@@ -1,5 +1,6 @@
 -- What is always so of a peer's part by itself, and how much room it needs that events take no memory.
 use Rattle.std.specs.Prelude.{◌≡◌, ◌≢◌, ℕ, zero, suc, ◌+◌, ◌<◌, ◌≤◌, ◌==◌, Bool, true, false, ◌&&◌, if◌then◌else◌, List, [], ◌∷◌, get_or, length, sum_by, Some}
+use Rattle.b1_model.specs.declared.limits.TheConstants.{MOST_HANDLES, MOST_PAYLOAD}
 use Rattle.b1_model.specs.declared.naming.Key.{Key}
 use Rattle.b1_model.specs.declared.naming.NodeRef.{NodeRef}
 use Rattle.b1_model.specs.declared.parts.Slot.{Slot}
@@ -52,12 +53,12 @@ is_notice_of serial (k, ReleaseNotice mine) = mine == serial
 
 -- ---- one entry
 
--- a message is for a node that was made, it is as long as its payload and not too long, it carries at most 64 nodes, and its slots are known once it is committed
+-- a message is for a node that was made, it is as long as its payload and not too long, it doesn't carry too many nodes, and its slots are known once it is committed
 pub record IsMessage (me made : ℕ) (staged : Bool) (serial len : ℕ) (nodes : List NodeRef) (slots : List Slot) (payload : List ℕ) : Type 0 where
   pub there : serial < made
   pub as_long : len ≡ length payload
-  pub short : len ≤ 65536
-  pub few : length nodes ≤ 64
+  pub short : len ≤ MOST_PAYLOAD
+  pub few : length nodes ≤ MOST_HANDLES
   pub as_many : length slots ≡ length nodes
   pub known : staged ≡ false → AreSlots me made nodes slots
 

@@ -1,2 +1,4 @@
 pub mod CountLemmas
 pub mod NodeLemmas
+pub mod Doomed
+pub mod Words

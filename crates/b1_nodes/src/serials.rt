@@ -8,11 +8,11 @@ ghost use Rattle.b1_nodes.specs.Nodes.{node_in, holders, AllMade, AreNodes};
 
 use crate::node::Node;
 use crate::nodes::node_at;
-use b1_model::PeerSet;
+use b1_model::{MOST_PEERS, PeerSet};
 
 /// The peers that have a reference to one of the nodes.
 pub fn holders_of(nodes: &[Node], peers: u32, serials: &[u32]) -> PeerSet
-    requires few { peers ≤ 64 }
+    requires few { peers ≤ MOST_PEERS }
     requires made { All (λ serial. serial < length nodes.now) serials.now }
     ensures { result ≡ holders peers nodes.now serials.now }
 {

@@ -9,7 +9,7 @@ use crate::counts::add_rooms;
 use crate::node::Node;
 use crate::nodes::{find_number, forget_at, lower_at, mark_taken, node_at, push_node, raise_at};
 use crate::serials::{destroy_all, doom_all, holders_of};
-use b1_model::{Attach, NodeState, Nums, PeerSet};
+use b1_model::{Attach, MOST_PEERS, NodeState, Nums, PeerSet};
 use std::alloc::{AllocError, Global};
 use std::marker::Model;
 
@@ -25,6 +25,7 @@ pub struct NodeTable {
 }
 
 impl Model for NodeTable {
+    ghost use Rattle.b1_model.specs.declared.limits.TheConstants.{MOST_PEERS};
     ghost use Rattle.std.specs.Prelude.{◌≡◌, ◌+◌, ◌<◌, ◌≤◌, ◌^◌, All, length, replicate, vec_len};
     ghost use Rattle.std.specs.Vec.{vec_capacity};
     ghost use Rattle.b1_nodes.specs.Nodes.{Nodes, AreNodes};
@@ -34,7 +35,7 @@ impl Model for NodeTable {
     ghost view = { λ t. record { owner = t.owner; peers = t.peers; nodes = t.nodes.items; late = t.late; spare = vec_len t.rooms } };
 
     ghost invariant = { λ t. record {
-      few_peers : t.peers ≤ 64;
+      few_peers : t.peers ≤ MOST_PEERS;
       few_nodes : length t.nodes.items < 2 ^ 32;
       nodes : AreNodes t.peers t.nodes.items;
       rooms : All (λ r. r ≡ replicate t.peers 0) t.rooms.items;
@@ -43,9 +44,10 @@ impl Model for NodeTable {
 }
 
 impl NodeTable {
-    /// A table of no nodes and no spare, of the peer `owner` among `peers` peers. An error is want of memory.
+    /// A table of no nodes and no spare, of the peer `owner` among `peers` peers, at most `MOST_PEERS`. An error is want of
+    /// memory.
     pub fn make(alloc: Global, owner: u32, peers: u32) -> Result<NodeTable, AllocError>
-        requires { peers ≤ 64 }
+        requires few { peers ≤ MOST_PEERS }
         ensures { IfOk result (λ t. t ≡ record { owner = owner; peers = peers; nodes = []; late = []; spare = 0 }) }
     {
         Ok(NodeTable {

@@ -3,6 +3,7 @@ use Rattle.std.proofs.Common.{◌≡◌, refl, sym, ap, ◌∙◌, inl, inr, sub
 use Rattle.std.specs.Bool.{then_some}
 use Rattle.std.specs.List.{list_any}
 use native.Mathlib.Omega.{arith}
+use Rattle.b1_model.specs.declared.limits.TheConstants.{MOST_DESTINATIONS, MOST_HANDLES}
 use Rattle.b1_model.specs.declared.naming.NodeRef.{NodeRef}
 use Rattle.b1_model.specs.declared.answers.Reason.{Reason}
 use Rattle.b1_model.specs.declared.answers.Reason.TheVariants as reason
@@ -166,12 +167,12 @@ begins_memory x c is = record { memory = true; event = ap (λ o. begin_by o true
 pub begins_done : (x : PeerPart) (c : SendCmd) → send_refusal x c ≡ None → Begins x c (Ok (begun_nodes x c)) (begun_part x c)
 begins_done x c is = record { memory = false; event = ap (λ o. begin_by o false c x) is }
 
--- an accepted SEND carries at most 64 handles
-few_of : (a b : Bool) (n : ℕ) (d e : Bool) → (a || b || nat_lt 64 n || d || e) ≡ false → n ≤ 64
+-- an accepted SEND doesn't carry too many handles
+few_of : (a b : Bool) (n : ℕ) (d e : Bool) → (a || b || nat_lt MOST_HANDLES n || d || e) ≡ false → n ≤ MOST_HANDLES
 few_of a b n d e is = grind (arith, is)
 
-pub few_carried : (x : PeerPart) (c : SendCmd) → send_refusal x c ≡ None → length c.with ≤ 64
-few_carried x c is = few_of (length c.to == 0) (nat_lt 64 (length c.to)) (length c.with) (list_any is_odd c.to) (list_any is_odd c.with) (by (is_bad_send c) _ is)
+pub few_carried : (x : PeerPart) (c : SendCmd) → send_refusal x c ≡ None → length c.with ≤ MOST_HANDLES
+few_carried x c is = few_of (length c.to == 0) (nat_lt MOST_DESTINATIONS (length c.to)) (length c.with) (list_any is_odd c.to) (list_any is_odd c.with) (by (is_bad_send c) _ is)
   where
     by : (b : Bool) (rest : List (Option Reason)) → first_reason (then_some b reason.Invalid ∷ rest) ≡ None → b ≡ false
     by true rest e = absurd (cc e)

@@ -18,7 +18,7 @@ use Rattle.b1_step.proofs.Queues.{without_has}
 use Rattle.b1_queue.proofs.Entries.{AllPairs-head, AllPairs-tail}
 use Rattle.b1_nodes.specs.Nodes.{Nodes, node_in, AllMade, holders}
 use Rattle.b1_peer_queue.specs.Mail.{Mail}
-use Rattle.b1_doom.proofs.Doomed.{no_more}
+use Rattle.b1_nodes.proofs.Doomed.{no_more}
 use Rattle.b1_inv_peer.specs.Needs.{StagesAnew}
 use Rattle.b1_inv_peer.specs.PeerOk.{count, is_notice_of, IsRoom}
 use Rattle.b1_inv_peer.proofs.Counts.{none_found}

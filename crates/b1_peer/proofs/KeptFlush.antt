@@ -1,6 +1,7 @@
--- A peer stays what it is where its queue and its handles are given up.
+-- A peer stays what it is where its queue and its handles are given up, and where it gets new limits.
 use Rattle.std.proofs.Common.{◌≡◌, sym, subst, ℕ, ◌+◌, List, [], length}
 use Rattle.b1_model.specs.declared.naming.Key.{Key}
+use Rattle.b1_model.specs.declared.naming.Limits.{Limits}
 use Rattle.b1_model.specs.declared.entries.Entry.{Entry}
 use Rattle.b1_model.specs.MachineParts.{HandleRecord}
 use Rattle.b1_step.specs.Rights.{Has}
@@ -31,3 +32,8 @@ flush_kept p peer epoch mail store handles dead emptied spare given stored = rec
   among = peer.among;
   few = peer.few;
 }
+
+pub limit_kept : (p : Fields) → IsPeer p → (limits : Limits) (mail : Mail) → mail ≡ record p.mail { limits = limits } → IsPeer (record p { mail = mail })
+limit_kept p peer limits mail is =
+    subst (λ (m : Mail). IsPeer (record p { mail = m })) (sym is)
+    (record { ok = peer.ok; room = peer.room; contents = peer.contents; stored = peer.stored; owner = peer.owner; among = peer.among; few = peer.few })

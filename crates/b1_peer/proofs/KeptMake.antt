@@ -3,6 +3,7 @@ use Rattle.std.proofs.Common.{◌≡◌, refl, sym, ap, ◌∙◌, inl, inr, sub
 use Rattle.std.specs.List.{list_any}
 use Rattle.std.proofs.lemmas.List.{length-set}
 use native.Mathlib.Omega.{arith}
+use Rattle.b1_model.specs.declared.limits.TheConstants.{MOST_PEERS}
 use Rattle.b1_model.specs.declared.naming.Key.{Key}
 use Rattle.b1_model.specs.declared.naming.NodeRef.{NodeRef}
 use Rattle.b1_model.specs.declared.parts.NodeState.{NodeState}
@@ -55,7 +56,7 @@ destroyed_kept p peer doomed stamp clock nodes dying nodes_are = rw nodes_are (r
 
 -- ---- a peer is made
 
-pub made_peer : (p : Fields) → p.mail.queue ≡ [] → p.nodes.nodes ≡ [] → p.handles.records ≡ [] → IsStored p.store → p.nodes.owner ≡ p.me → p.nodes.peers ≡ p.peers → p.peers ≤ 64 → IsPeer p
+pub made_peer : (p : Fields) → p.mail.queue ≡ [] → p.nodes.nodes ≡ [] → p.handles.records ≡ [] → IsStored p.store → p.nodes.owner ≡ p.me → p.nodes.peers ≡ p.peers → p.peers ≤ MOST_PEERS → IsPeer p
 made_peer p no_queue no_nodes no_records stored owner among few = record {
   ok = subst (λ q. AreOk p.me p.nodes.nodes p.store.slices q p.handles.records) (sym no_queue) (subst (λ hs. AreOk p.me p.nodes.nodes p.store.slices [] hs) (sym no_records) (record {
     rising = tt;

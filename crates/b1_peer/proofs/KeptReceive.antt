@@ -2,6 +2,7 @@
 use Rattle.std.proofs.Common.{◌≡◌, refl, sym, ap, ◌∙◌, subst, ℕ, ◌+◌, ◌*◌, ◌≤◌, ◌<◌, Bool, true, false, cond, List, [], ◌∷◌, ◌++◌, drop, length, zip, fold, All, is_some, Option, Some, None, unwrap_or}
 use Rattle.std.specs.Prelude.{slice_get}
 use native.Mathlib.Omega.{arith}
+use Rattle.b1_model.specs.declared.limits.TheConstants.{MOST_HANDLES}
 use Rattle.b1_model.specs.declared.naming.Key.{Key}
 use Rattle.b1_model.specs.declared.naming.NodeRef.{NodeRef}
 use Rattle.b1_model.specs.declared.parts.Slot.{Slot}
@@ -117,8 +118,8 @@ pub record Arrivable (p : Fields) (serial offset : ℕ) (nodes : List NodeRef) (
   pub made : serial < length p.nodes.nodes
   pub queued : is_queued offset p.store.slices ≡ true
   pub within : padded_len (length payload) + 8 * length nodes ≤ len_at offset p.store.slices
-  pub short : length payload ≤ 65536
-  pub few : length nodes ≤ 64
+  pub short : length payload ≤ MOST_PAYLOAD
+  pub few : length nodes ≤ MOST_HANDLES
   pub room : 1 ≤ p.dead.room
   pub stock : 1 ≤ p.numbers
   pub may : All (λ o. may_arrive p.me (length p.nodes.nodes) o ≡ true) (zip nodes slots)

@@ -3,6 +3,7 @@ use Rattle.std.proofs.Common.{◌≡◌, ◌≢◌, refl, sym, ap, ◌∙◌, in
 use Rattle.std.specs.Prelude.{slice_get}
 use Rattle.std.proofs.lemmas.List.{length-set}
 use native.Mathlib.Omega.{arith}
+use Rattle.b1_model.specs.declared.limits.TheConstants.{MOST_HANDLES}
 use Rattle.b1_model.specs.declared.naming.Key.{Key}
 use Rattle.b1_model.specs.declared.naming.NodeRef.{NodeRef}
 use Rattle.b1_model.specs.declared.entries.Entry.{Entry}
@@ -156,7 +157,7 @@ discarded_message x (ReleaseNotice serial) is = absurd (cc is)
 pub room_for_item : (p : Fields) → IsPeer p → (f : Key × Entry) → Has p.mail.queue f → is_data f.1 ≡ true → 1 ≤ p.dead.room
 room_for_item p peer f h is = let some = has_count is_message p.mail.queue f h is in let room = peer.room.dead in omega (arith, some, room)
 
-pub few_carried : (me made : ℕ) (f : Key × Entry) → MessageOk me made f → is_data f.1 ≡ true → length (carried f.1) ≤ 64
+pub few_carried : (me made : ℕ) (f : Key × Entry) → MessageOk me made f → is_data f.1 ≡ true → length (carried f.1) ≤ MOST_HANDLES
 few_carried me made (k, Message origin user index serial offset len nodes slots handles payload) right is = right.few
 few_carried me made (k, OwnNotice serial index) right is = absurd (cc is)
 few_carried me made (k, ForeignNotice node index) right is = absurd (cc is)

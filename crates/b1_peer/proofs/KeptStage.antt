@@ -4,6 +4,7 @@ use Rattle.std.specs.List.{list_any}
 use Rattle.std.specs.Bool.{then_some}
 use Rattle.std.proofs.lemmas.Bool.{eq-eqb}
 use native.Mathlib.Omega.{arith}
+use Rattle.b1_model.specs.declared.limits.TheConstants.{MOST_HANDLES, MOST_PAYLOAD}
 use Rattle.b1_model.specs.declared.naming.Key.{Key}
 use Rattle.b1_model.specs.declared.naming.NodeRef.{NodeRef}
 use Rattle.b1_model.specs.declared.parts.Slot.{Slot}
@@ -96,7 +97,7 @@ pub odd_behind : (clock : ℕ) → clock % 2 ≡ 0 → is_odd (clock + 1) ≡ tr
 odd_behind clock even = let one : (clock + 1) % 2 ≡ 1 = omega (arith, even) in rw one refl
 
 pub stage_kept : (p : Fields) → IsPeer p → (origin user index serial : ℕ) (payload : List ℕ) (carries : List NodeRef) (most : ℕ) (store : Stored) (offset : ℕ) →
-    p.clock % 2 ≡ 0 → serial < length p.nodes.nodes → length payload ≤ 65536 → length carries ≤ 64 → find (is_stage origin index) p.mail.queue ≡ None →
+    p.clock % 2 ≡ 0 → serial < length p.nodes.nodes → length payload ≤ MOST_PAYLOAD → length carries ≤ MOST_HANDLES → find (is_stage origin index) p.mail.queue ≡ None →
     length p.nodes.nodes + length carries + length p.handles.records ≤ most → Enough most (length p.mail.queue) p.mail p.store p.dead p.numbers →
     full_reason p.store.slices (length payload) (length carries) ≡ None →
     offset ≡ taken_offset (slice_len (length payload) (length carries)) p.store.slices → store.slices ≡ taken (slice_len (length payload) (length carries)) p.store.slices →
@@ -189,8 +190,8 @@ pub record StageNeeds (s : PeerSeen) (origin user index serial : ℕ) (payload :
   pub even : s.part.clock % 2 ≡ 0
   pub made : serial < length s.part.nodes
   pub user_is : list_any (λ u. u == user) s.users ≡ true
-  pub short : length payload ≤ 65536
-  pub few : length carries ≤ 64
+  pub short : length payload ≤ MOST_PAYLOAD
+  pub few : length carries ≤ MOST_HANDLES
   pub unstaged : find (is_stage origin index) s.part.queue ≡ None
   pub accepted : stage_refusal s.part user serial (length payload) (length carries) ≡ None
 
@@ -199,7 +200,7 @@ pub entry_is : (e : Entry) (origin user index serial offset len : ℕ) (carries 
 entry_is e origin user index serial offset len carries new_carries slots handles payload new_payload is a b c d f = is ∙ (λ i. Message origin user index serial offset (a i) (b i) (c i) (d i) (f i))
 
 -- a message that was drafted is sound
-pub draft_sound : (users : List ℕ) (k : Key) (e : Entry) (origin user index serial offset : ℕ) (payload : List ℕ) (carries : List NodeRef) → e ≡ stage_entry origin user index serial offset payload carries → k.origin ≡ origin → k.index ≡ index → list_any (λ u. u == user) users ≡ true → length payload ≤ 65536 → length carries ≤ 64 → IsSound users (k, e)
+pub draft_sound : (users : List ℕ) (k : Key) (e : Entry) (origin user index serial offset : ℕ) (payload : List ℕ) (carries : List NodeRef) → e ≡ stage_entry origin user index serial offset payload carries → k.origin ≡ origin → k.index ≡ index → list_any (λ u. u == user) users ≡ true → length payload ≤ MOST_PAYLOAD → length carries ≤ MOST_HANDLES → IsSound users (k, e)
 draft_sound users k e origin user index serial offset payload carries is o i known short few =
     rw is (record { origin_is = o; index_is = i; user_known = known; len_is = refl; short = short; slots_are = as_many carries; few = few })
   where

@@ -13,3 +13,4 @@ pub mod KeptDestroys
 pub mod KeptVisits
 pub mod KeptStamps
 pub mod KeptFlush
+pub mod Payloads

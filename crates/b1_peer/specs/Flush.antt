@@ -1,5 +1,6 @@
 -- What a flush gives up of a queue.
 use Rattle.std.specs.Prelude.{ℕ, ◌≤◌, if◌then◌else◌, List, length}
+use Rattle.b1_model.specs.declared.limits.TheConstants.{MOST_HANDLES}
 use Rattle.b1_model.specs.declared.naming.Key.{Key}
 use Rattle.b1_model.specs.declared.naming.NodeRef.{NodeRef}
 use Rattle.b1_model.specs.declared.entries.Entry.{Entry}
@@ -16,6 +17,6 @@ item_of f items = if is_staged f then items else with_item (references f.1) item
 abbrev pub room_of : Key × Entry → ℕ
 room_of f = if is_message f then 1 else 0
 
--- each entry carries at most 64 nodes
+-- no entry carries too many nodes
 abbrev pub FewCarried : List (Key × Entry) → Type 0
-FewCarried queue = (f : Key × Entry) → Has queue f → length (carried f.1) ≤ 64
+FewCarried queue = (f : Key × Entry) → Has queue f → length (carried f.1) ≤ MOST_HANDLES

@@ -1,5 +1,6 @@
 -- What a peer is made of, and what ties its parts together.
 use Rattle.std.specs.Prelude.{◌≡◌, ℕ, ◌≤◌, List}
+use Rattle.b1_model.specs.declared.limits.TheConstants.{MOST_PEERS}
 use Rattle.b1_model.specs.declared.naming.Key.{Key}
 use Rattle.b1_model.specs.declared.entries.Entry.{Entry}
 use Rattle.b1_model.specs.declared.entries.Entry.TheVariants.{Message, OwnNotice, ForeignNotice, ReleaseNotice}
@@ -65,4 +66,4 @@ pub record IsPeer (p : Fields) : Type 0 where
   pub stored : IsStored p.store
   pub owner : p.nodes.owner ≡ p.me
   pub among : p.nodes.peers ≡ p.peers
-  pub few : p.peers ≤ 64
+  pub few : p.peers ≤ MOST_PEERS

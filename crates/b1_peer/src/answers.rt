@@ -1,11 +1,12 @@
 ghost use Rattle.std.specs.Prelude.{◌≡◌, ◌<◌, ◌-◌, true, false, Some, MatchResult};
 ghost use Rattle.b1_model.specs.declared.answers.Reason.TheVariants as reason;
 ghost use Rattle.b1_model.specs.MachinePool.{is_received};
-ghost use Rattle.b1_model.specs.MachineReceive.{has_dead as has_dead_item, reaped, reaped_part, released, released_part, slice_released};
+ghost use Rattle.b1_model.specs.MachineReceive.{has_dead as has_dead_item, reaped, reaped_part, limited, released, released_part, slice_released};
 ghost use Rattle.b1_inv_peer.specs.PeerOk.{PeerOk};
+ghost use Rattle.b1_peer.specs.Seen.{HasPayloads};
 
 use crate::state::PeerState;
-use b1_model::{Dead, Owed, PeerSpec, Reason, Received};
+use b1_model::{Dead, Limits, Owed, PeerSpec, Reason, Received};
 use b1_pool::PoolKind;
 use b1_queue::QueueKind;
 
@@ -59,6 +60,15 @@ impl<Q: QueueKind, P: PoolKind> PeerState<Q, P> {
         }
     }
 
+    /// Sets new limits, and nothing else. Charges that are above a new limit stay: of a quantity that is, messages are
+    /// refused until enough has ended. It takes no memory.
+    pub fn limit(&mut self, limits: Limits)
+        ensures part { self.new.part ≡ limited self.old.part limits }
+        ensures rest { self.new ≡ record self.old { part = self.new.part } }
+    {
+        self.mail.limit(limits);
+    }
+
     /// The user, the pool's size, and the limits.
     pub fn query(&self) -> PeerSpec
         ensures { result ≡ record { user = self.now.part.user; pool = self.now.part.pool; limits = self.now.part.limits } }
@@ -70,9 +80,11 @@ impl<Q: QueueKind, P: PoolKind> PeerState<Q, P> {
         }
     }
 
-    /// What is always so of the peer's part by itself.
+    /// What is always so: the peer's part is right by itself, and the slice of every queued message begins with its
+    /// payload.
     pub fn facts(&self)
         ensures ok { PeerOk self.now.part }
+        ensures payloads { HasPayloads self.now }
     {
         let _me = self.me;
     }

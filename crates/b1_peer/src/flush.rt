@@ -7,7 +7,7 @@ ghost use Rattle.b1_peer.specs.Flush.{item_of, room_of, FewCarried};
 use crate::state::PeerState;
 use b1_peer_carried::give_up_all;
 use b1_peer_queue::Mailbox;
-use b1_model::{Entry, Key, Limits};
+use b1_model::{Entry, Key, Limits, MOST_HANDLES};
 use b1_pool::PoolKind;
 use b1_queue::QueueKind;
 use b1_peer_dead::DeadList;
@@ -27,7 +27,7 @@ impl<Q: QueueKind, P: PoolKind> PeerState<Q, P> {
 }
 
 /// Takes every entry out of a queue. The references of committed messages come on the dead list, where there must be room
-/// for as many items as there are messages; each carries at most 64 nodes.
+/// for as many items as there are messages; each carries at most `MOST_HANDLES` nodes.
 fn empty_queue<Q: QueueKind>(mail: &mut Mailbox<Q>, dead: &mut DeadList)
     requires room { count is_message mail.old.queue ≤ dead.old.room }
     requires few { FewCarried mail.old.queue }
@@ -43,7 +43,7 @@ fn empty_queue<Q: QueueKind>(mail: &mut Mailbox<Q>, dead: &mut DeadList)
 /// Puts the references of a committed message on the dead list.
 fn give_up_entry(dead: &mut DeadList, key: Key, entry: Entry)
     requires room { room_of (key, entry) ≤ dead.old.room }
-    requires few { length (carried entry) ≤ 64 }
+    requires few { length (carried entry) ≤ MOST_HANDLES }
     ensures items { dead.new.items ≡ item_of (key, entry) dead.old.items }
     ensures room { dead.old.room ≤ dead.new.room + room_of (key, entry) }
 {

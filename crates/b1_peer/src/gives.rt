@@ -5,12 +5,9 @@ ghost use Rattle.b1_model.specs.MachineReceive.{dropped};
 ghost use Rattle.b1_inv_peer.specs.Needs.{IsClock, ReleasesAnew};
 
 use crate::state::PeerState;
-use b1_model::{Entry, Key};
+use b1_model::{Entry, Key, NO_ORIGIN};
 use b1_pool::PoolKind;
 use b1_queue::QueueKind;
-
-/// The origin of a release notice.
-const NO_ORIGIN: u32 = u32::MAX;
 
 impl<Q: QueueKind, P: PoolKind> PeerState<Q, P> {
     /// Takes back `k` references of a holder to a node of this peer, and raises the clock to the drop's. A live node

@@ -13,7 +13,7 @@ ghost use Rattle.b1_peer_carried.specs.Carry.{AreCarried};
 use b1_peer_carried::unexpect_all;
 use b1_handles::HandleTable;
 use b1_peer_queue::Mailbox;
-use b1_model::{Entry, Key};
+use b1_model::{Entry, Key, MOST_HANDLES};
 use b1_pool::PoolKind;
 use b1_queue::QueueKind;
 use b1_peer_dead::DeadList;
@@ -57,7 +57,7 @@ pub fn drop_message<P: PoolKind>(
     requires queued { IsTrue (is_queued (offset_of entry) store.old.slices) }
     requires carried { AreCarried (foreign me (carried entry)) handles.old.records }
     requires room { 1 ≤ dead.old.room }
-    requires few { length (carried entry) ≤ 64 }
+    requires few { length (carried entry) ≤ MOST_HANDLES }
     ensures slices { store.new.slices ≡ given_back (offset_of entry) store.old.slices }
     ensures size { store.new.size ≡ store.old.size }
     ensures bytes { store.new.bytes ≡ store.old.bytes }

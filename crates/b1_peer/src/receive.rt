@@ -14,7 +14,7 @@ ghost use Rattle.b1_peer.specs.Arrivals.{HasArrived};
 
 use b1_peer_carried::arrive;
 use b1_handles::HandleTable;
-use b1_model::{Bytes, Key, NodeRef, Nums, Receipt, Slot};
+use b1_model::{Bytes, Key, MOST_HANDLES, MOST_PAYLOAD, NodeRef, Nums, Receipt, Slot};
 use b1_nodes::NodeTable;
 use b1_pool::PoolKind;
 use b1_peer_dead::DeadList;
@@ -39,15 +39,15 @@ pub fn receive<P: PoolKind>(
     requires stored { IsStored store.old }
     requires queued { IsTrue (is_queued offset store.old.slices) }
     requires within { padded_len (length payload) + 8 * length with.now ≤ len_at offset store.old.slices }
-    requires short { length payload ≤ 65536 }
-    requires few { length with.now ≤ 64 }
+    requires short { length payload ≤ MOST_PAYLOAD }
+    requires few { length with.now ≤ MOST_HANDLES }
     requires room { 1 ≤ dead.old.room }
     requires empty { numbers.items ≡ [] }
-    requires capacity { 64 ≤ vec_capacity numbers }
+    requires capacity { MOST_HANDLES ≤ vec_capacity numbers }
     requires may_arrive { All (λ one. may_arrive me (length nodes.now.nodes) one ≡ true) (zip with.now slots.now) }
     requires carried { AreCarried (foreign me with.now) handles.old.records }
     requires fits { All (λ h. h.held < 2 ^ 62) handles.old.records }
-    requires numbered { handles.old.given + 64 < 2 ^ 60 }
+    requires numbered { handles.old.given + MOST_HANDLES < 2 ^ 60 }
     requires holds { Holds offset store.old.bytes (padded payload) }
     ensures arrived { (x : PeerPart) → HasTables me nodes.now.nodes handles.old x → HasArrived x key number offset with.now slots.now payload result handles.new dead.old.items dead.new.items }
     ensures slices { store.new.slices ≡ published offset store.old.slices }

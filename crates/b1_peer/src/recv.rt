@@ -11,19 +11,16 @@ use crate::front::Kind;
 use crate::leave::{drop_message, take_key};
 use crate::receive::receive;
 use crate::state::PeerState;
-use b1_model::{Entry, Front, NodeRef, Receipt, Received};
+use b1_model::{Entry, Front, INVALID, MOST_HANDLES, NodeRef, Receipt, Received};
 use b1_pool::PoolKind;
 use b1_queue::QueueKind;
-
-/// A number that names nothing.
-const INVALID: u64 = u64::MAX;
 
 impl<Q: QueueKind, P: PoolKind> PeerState<Q, P> {
     /// Removes what is for nobody at the front, and takes the entry that is then in front, where it is committed. A
     /// message's slice holds its payload, zero padding to a multiple of 8, and the numbers of its handles. Fewer than
-    /// 2^60 - 64 numbers may have been given, and no node held 2^62 times.
+    /// 2^60 - `MOST_HANDLES` numbers may have been given, and no node held 2^62 times.
     pub fn recv(&mut self) -> Received
-        requires few { self.old.part.given < 2 ^ 60 - 64 }
+        requires few { self.old.part.given < 2 ^ 60 - MOST_HANDLES }
         requires held { HeldFew self.old.part }
         ensures answer { result ≡ received self.old.part }
         ensures part { self.new.part ≡ received_part self.old.part }
@@ -116,7 +113,7 @@ impl<Q: QueueKind, P: PoolKind> PeerState<Q, P> {
 
     /// Takes the front, which isn't for nobody, where it is committed.
     fn take_front(&mut self) -> Result<Receipt, Front>
-        requires few { self.old.part.given < 2 ^ 60 - 64 }
+        requires few { self.old.part.given < 2 ^ 60 - MOST_HANDLES }
         requires held { HeldFew self.old.part }
         ensures answer { result ≡ (front_taken self.old.part self.old.part.queue).0 }
         ensures part { self.new.part ≡ (front_taken self.old.part self.old.part.queue).1 }
@@ -137,7 +134,7 @@ impl<Q: QueueKind, P: PoolKind> PeerState<Q, P> {
     /// Takes a message at the front.
     fn take_message(&mut self, serial: u32) -> Receipt
         requires kind { kind_of self.old.part.queue ≡ kinds.Message serial }
-        requires few { self.old.part.given < 2 ^ 60 - 64 }
+        requires few { self.old.part.given < 2 ^ 60 - MOST_HANDLES }
         requires held { HeldFew self.old.part }
         ensures answer { Ok result ≡ (front_taken self.old.part self.old.part.queue).0 }
         ensures part { self.new.part ≡ (front_taken self.old.part self.old.part.queue).1 }

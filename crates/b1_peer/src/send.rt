@@ -6,8 +6,8 @@ ghost use Rattle.b1_peer.specs.Answers.{Begins};
 
 use crate::begin::{has_odd, held_dead, make_all, own_dead, room_for_nodes};
 use crate::state::PeerState;
-use b1_doom::overflow;
-use b1_model::{Begun, NodeRef, NodeRefs, Reason, SendCmd};
+use b1_nodes::overflow;
+use b1_model::{Begun, MOST_DESTINATIONS, MOST_HANDLES, MOST_PAYLOAD, NodeRef, NodeRefs, Reason, SendCmd};
 use b1_pool::PoolKind;
 use b1_queue::QueueKind;
 use b1_peer_dead::put_last;
@@ -24,10 +24,10 @@ impl<Q: QueueKind, P: PoolKind> PeerState<Q, P> {
     }
 
     /// Begins a SEND at its sender: makes nodes for unknown own carried numbers, and answers the nodes that its numbers
-    /// name. Fewer than 2^32 - 64 nodes may have been made. A refusal is that of `may_send`, or want of memory, and makes
+    /// name. Fewer than 2^32 - `MOST_HANDLES` nodes may have been made. A refusal is that of `may_send`, or want of memory, and makes
     /// nothing.
     pub fn begin_send(&mut self, cmd: &SendCmd) -> Result<Begun, Reason>
-        requires few { length self.old.part.nodes < 2 ^ 32 - 64 }
+        requires few { length self.old.part.nodes < 2 ^ 32 - MOST_HANDLES }
         ensures begins { Begins self.old.part cmd.now result self.new.part }
         ensures rest { self.new ≡ record self.old { part = self.new.part } }
     {
@@ -65,11 +65,16 @@ impl<Q: QueueKind, P: PoolKind> PeerState<Q, P> {
     {
         let to = cmd.to.as_slice();
         let with = cmd.with.as_slice();
-        if to.is_empty() || to.len() > 64 || with.len() > 64 || has_odd(to) || has_odd(with) {
+        if to.is_empty()
+            || to.len() > MOST_DESTINATIONS
+            || with.len() > MOST_HANDLES
+            || has_odd(to)
+            || has_odd(with)
+        {
             return Some(Reason::Invalid);
         }
         let len = cmd.payload.len() as u64;
-        if len > 65536 {
+        if len > MOST_PAYLOAD as u64 {
             return Some(Reason::Size { len });
         }
         if let Some(reason) = overflow(self.clock) {

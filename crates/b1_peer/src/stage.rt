@@ -11,13 +11,10 @@ ghost use Rattle.b1_inv_peer.specs.Needs.{IsClock};
 use crate::rooms::make_room;
 use crate::state::PeerState;
 use b1_peer_carried::expect_all;
-use b1_model::{Bytes, Entry, Key, NodeRef, NodeRefs, NodeState, Nums, Reason, Slot, Slots};
+use b1_model::{Bytes, CLOCK_LIMIT, Entry, Key, MOST_HANDLES, MOST_PAYLOAD, NodeRef, NodeRefs, NodeState, Nums, Reason, Slot, Slots};
 use b1_pool::PoolKind;
 use b1_queue::QueueKind;
 use std::alloc::{AllocError, Global};
-
-/// No stamp is begun at a clock from this one on.
-pub(crate) const CLOCK_LIMIT: u64 = 1 << 62;
 
 /// A message without its slice's offset.
 #[derive(Drop)]
@@ -97,8 +94,8 @@ impl<Q: QueueKind, P: PoolKind> PeerState<Q, P> {
     /// Why a message of `user` to the node `serial` is refused, want of memory aside.
     fn stage_refused(&self, user: u32, serial: u32, payload: u32, handles: u32) -> Option<Reason>
         requires made { serial < length self.now.part.nodes }
-        requires short { payload ≤ 65536 }
-        requires few { handles ≤ 64 }
+        requires short { payload ≤ MOST_PAYLOAD }
+        requires few { handles ≤ MOST_HANDLES }
         ensures { result ≡ stage_refusal self.now.part user serial payload handles }
     {
         if self.nodes.state(serial) != NodeState::Live {
@@ -117,8 +114,8 @@ impl<Q: QueueKind, P: PoolKind> PeerState<Q, P> {
     }
 
     /// Stages a message of `origin`'s SEND for its place `index` to the node `serial`, charged to `user`, and answers this
-    /// peer's clock. At most 65,536 bytes and 64 handles; that message must not be staged yet. The refusals, in their
-    /// order: the node isn't live, the clock is 2^62 or more, the quota, the pool, want of memory. Each leaves all as it
+    /// peer's clock. At most `MOST_PAYLOAD` bytes and `MOST_HANDLES` handles; that message must not be staged yet. The refusals, in their
+    /// order: the node isn't live, the clock is `CLOCK_LIMIT` or more, the quota, the pool, want of memory. Each leaves all as it
     /// was.
     pub fn stage(
         &mut self,
@@ -132,8 +129,8 @@ impl<Q: QueueKind, P: PoolKind> PeerState<Q, P> {
         requires clock { IsClock self.old.part.clock }
         requires made { serial < length self.old.part.nodes }
         requires user { list_any (λ u. u == user) self.old.users ≡ true }
-        requires short { length payload.now ≤ 65536 }
-        requires few { length with.now ≤ 64 }
+        requires short { length payload.now ≤ MOST_PAYLOAD }
+        requires few { length with.now ≤ MOST_HANDLES }
         requires unstaged { find_stage self.old.part origin index ≡ None }
         requires new_key { NewKey (record { stamp = self.old.part.clock + 1; origin = origin; index = index }) self.old.part.queue }
         ensures stages { Stages self.old.part origin user index serial payload.now with.now result self.new.part }
@@ -156,8 +153,8 @@ impl<Q: QueueKind, P: PoolKind> PeerState<Q, P> {
         requires clock { IsClock self.old.part.clock }
         requires made { draft.serial < length self.old.part.nodes }
         requires user { list_any (λ u. u == draft.user) self.old.users ≡ true }
-        requires short { length payload.now ≤ 65536 }
-        requires few { length with.now ≤ 64 }
+        requires short { length payload.now ≤ MOST_PAYLOAD }
+        requires few { length with.now ≤ MOST_HANDLES }
         requires unstaged { find_stage self.old.part draft.origin draft.index ≡ None }
         requires new_key { NewKey (record { stamp = self.old.part.clock + 1; origin = draft.origin; index = draft.index }) self.old.part.queue }
         requires accepted { stage_refusal self.old.part draft.user draft.serial (length payload.now) (length with.now) ≡ None }

@@ -9,6 +9,3 @@ mod slots;
 pub use carry::{expect_all, unexpect_all};
 pub use flush::give_up_all;
 pub use slots::arrive;
-
-#[cfg(test)]
-mod tests;

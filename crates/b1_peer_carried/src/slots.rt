@@ -9,12 +9,9 @@ ghost use Rattle.b1_nodes.specs.Nodes.{node_in};
 ghost use Rattle.b1_peer_carried.specs.Carry.{AreCarried, HasTables, arriving, may_arrive};
 
 use b1_handles::HandleTable;
-use b1_model::{NodeRef, Slot};
+use b1_model::{INVALID, MOST_HANDLES, NodeRef, Slot};
 use b1_nodes::NodeTable;
 use b1_peer_dead::put_last;
-
-/// A number that names nothing.
-const INVALID: u64 = u64::MAX;
 
 /// The slots of a taken message arrive, from the first on, at the peer `me`. Their numbers come into `numbers`, and the
 /// references that are given up at once into `refs`: both must be empty, and have room for one value for each node.
@@ -35,7 +32,7 @@ pub fn arrive(
     requires empty_refs { refs.old.items ≡ [] }
     requires room_numbers { length carried.now ≤ vec_capacity numbers.old }
     requires room_refs { length carried.now ≤ vec_capacity refs.old }
-    requires few { length carried.now ≤ 64 }
+    requires few { length carried.now ≤ MOST_HANDLES }
     requires may_arrive { All (λ one. may_arrive me (length nodes.now.nodes) one ≡ true) (zip carried.now slots.now) }
     requires carried { AreCarried (foreign me carried.now) handles.old.records }
     requires fits { All (λ h. h.held < 2 ^ 62) handles.old.records }

@@ -4,27 +4,24 @@ ghost use Rattle.std.specs.Prelude.{◌≡◌, ◌+◌, ◌++◌, ◌∷◌, [],
 ghost use Rattle.std.specs.Vec.{vec_capacity};
 ghost use Rattle.b1_model.specs.MachineReceive.{reference_of};
 
-use b1_model::{NodeRef, Slot};
+use b1_model::{MOST_HANDLES, NodeRef, Slot};
 use std::alloc::{AllocError, Global};
 
-/// How many values a buffer has room for at least.
-pub const ROOM: usize = 64;
-
-/// Makes empty buffers until there are `n` of them. An error is want of memory, and leaves at least what was there.
+/// Makes empty buffers, each with room for `MOST_HANDLES` values at least, until there are `n` of them. An error is want of memory, and leaves at least what was there.
 pub fn add_buffers<T: Drop>(
     buffers: &mut Vec<Vec<T>>,
     alloc: Global,
     n: usize,
 ) -> Result<(), AllocError>
-    requires { All (λ b. (b.items ≡ []) × (64 ≤ vec_capacity b)) buffers.old.items }
-    ensures empty { All (λ b. (b.items ≡ []) × (64 ≤ vec_capacity b)) buffers.new.items }
+    requires { All (λ b. (b.items ≡ []) × (MOST_HANDLES ≤ vec_capacity b)) buffers.old.items }
+    ensures empty { All (λ b. (b.items ≡ []) × (MOST_HANDLES ≤ vec_capacity b)) buffers.new.items }
     ensures enough { OnOk result (n ≤ vec_len buffers.new) }
     ensures more { vec_len buffers.old ≤ vec_len buffers.new }
     ensures no_more { vec_len buffers.new ≤ max (vec_len buffers.old) n }
     ensures capacity { vec_capacity buffers.old ≤ vec_capacity buffers.new }
 {
     while buffers.len() < n {
-        buffers.push(Vec::with_capacity(alloc, ROOM)?)?;
+        buffers.push(Vec::with_capacity(alloc, MOST_HANDLES)?)?;
     }
     Ok(())
 }

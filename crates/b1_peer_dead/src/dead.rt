@@ -4,7 +4,7 @@ ghost use Rattle.b1_model.specs.MachineReceive.{reference_of, with_item};
 ghost use Rattle.b1_peer_dead.specs.Dead.{has_items};
 
 use crate::buffers::{add_buffers, gather, put_last};
-use b1_model::{Drops, NodeRef, Slot};
+use b1_model::{Drops, MOST_HANDLES, NodeRef, Slot};
 use std::alloc::{AllocError, Global};
 use std::marker::Model;
 
@@ -21,6 +21,7 @@ pub struct DeadList {
 }
 
 impl Model for DeadList {
+    ghost use Rattle.b1_model.specs.declared.limits.TheConstants.{MOST_HANDLES};
     ghost use Rattle.std.specs.Prelude.{◌≡◌, ℕ, ◌+◌, ◌≤◌, [], All, vec_len};
     ghost use Rattle.std.specs.Vec.{vec_capacity};
     ghost use Rattle.b1_peer_dead.specs.Dead.{DeadSeen};
@@ -30,7 +31,7 @@ impl Model for DeadList {
     ghost view = { λ d. record { items = d.items.items; room = vec_len d.buffers; lent = d.lent } };
 
     ghost invariant = { λ d. record {
-      empty : All (λ b. (b.items ≡ []) × (64 ≤ vec_capacity b)) d.buffers.items;
+      empty : All (λ b. (b.items ≡ []) × (MOST_HANDLES ≤ vec_capacity b)) d.buffers.items;
       places : vec_len d.items + vec_len d.buffers + d.lent ≤ vec_capacity d.items;
       back : vec_len d.buffers + d.lent ≤ vec_capacity d.buffers;
     } };
@@ -72,11 +73,11 @@ impl DeadList {
         self.items.is_empty()
     }
 
-    /// Hands out a buffer for an item, where there is room. It is empty, and has room for 64 references at least.
+    /// Hands out a buffer for an item, where there is room. It is empty, and has room for `MOST_HANDLES` references at least.
     pub fn buffer(&mut self) -> Vec<(NodeRef, u64)>
         requires { 1 ≤ self.old.room }
         ensures empty { result.items ≡ [] }
-        ensures capacity { 64 ≤ vec_capacity result }
+        ensures capacity { MOST_HANDLES ≤ vec_capacity result }
         ensures lent { self.new ≡ record self.old { room = self.old.room - 1; lent = self.old.lent + 1 } }
     {
         let Some(buffer) = self.buffers.pop() else {
@@ -87,10 +88,10 @@ impl DeadList {
     }
 
     /// Puts a buffer's references behind the other items; an empty buffer goes back, and makes no item. A buffer must be
-    /// out, and this one must have room for 64 references at least.
+    /// out, and this one must have room for `MOST_HANDLES` references at least.
     pub fn add(&mut self, item: Vec<(NodeRef, u64)>)
         requires lent { 1 ≤ self.old.lent }
-        requires capacity { 64 ≤ vec_capacity item }
+        requires capacity { MOST_HANDLES ≤ vec_capacity item }
         ensures items { self.new.items ≡ with_item item.items self.old.items }
         ensures room { self.new.room + length self.new.items ≡ self.old.room + length self.old.items + 1 }
         ensures lent { self.new.lent ≡ self.old.lent - 1 }
@@ -104,10 +105,10 @@ impl DeadList {
     }
 
     /// Puts the references that slots have behind the other items, in the order of the slots; where there are none, no
-    /// item. There must be room, and at most 64 nodes.
+    /// item. There must be room, and at most `MOST_HANDLES` nodes.
     pub fn add_references(&mut self, with: &[NodeRef], slots: &[Slot])
         requires room { 1 ≤ self.old.room }
-        requires few { length with.now ≤ 64 }
+        requires few { length with.now ≤ MOST_HANDLES }
         ensures items { self.new.items ≡ with_item (filter_map reference_of (zip with.now slots.now)) self.old.items }
         ensures room { self.new.room + length self.new.items ≡ self.old.room + length self.old.items }
         ensures lent { self.new.lent ≡ self.old.lent }

@@ -8,6 +8,3 @@ mod stock;
 pub use buffers::put_last;
 pub use dead::DeadList;
 pub use stock::Stock;
-
-#[cfg(test)]
-mod tests;

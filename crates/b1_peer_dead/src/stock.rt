@@ -2,6 +2,7 @@ ghost use Rattle.std.specs.Prelude.{◌≡◌, ◌-◌, ◌≤◌, [], max, OnOk
 ghost use Rattle.std.specs.Vec.{vec_capacity};
 
 use crate::buffers::add_buffers;
+use b1_model::MOST_HANDLES;
 use std::alloc::{AllocError, Global};
 use std::marker::Model;
 
@@ -13,6 +14,7 @@ pub struct Stock<T> {
 }
 
 impl<T> Model for Stock<T> {
+    ghost use Rattle.b1_model.specs.declared.limits.TheConstants.{MOST_HANDLES};
     ghost use Rattle.std.specs.Prelude.{◌≡◌, ℕ, ◌≤◌, [], All, vec_len};
     ghost use Rattle.std.specs.Vec.{vec_capacity};
 
@@ -20,7 +22,7 @@ impl<T> Model for Stock<T> {
 
     ghost view = { λ s. vec_len s.buffers };
 
-    ghost invariant = { λ s. All (λ b. (b.items ≡ []) × (64 ≤ vec_capacity b)) s.buffers.items };
+    ghost invariant = { λ s. All (λ b. (b.items ≡ []) × (MOST_HANDLES ≤ vec_capacity b)) s.buffers.items };
 }
 
 impl<T: Drop> Stock<T> {
@@ -44,11 +46,11 @@ impl<T: Drop> Stock<T> {
         add_buffers(&mut self.buffers, self.alloc, n)
     }
 
-    /// Hands out a buffer, of which at least one must be there. It is empty, and has room for 64 values at least.
+    /// Hands out a buffer, of which at least one must be there. It is empty, and has room for `MOST_HANDLES` values at least.
     pub fn take(&mut self) -> Vec<T>
         requires { 1 ≤ self.old }
         ensures empty { result.items ≡ [] }
-        ensures room { 64 ≤ vec_capacity result }
+        ensures room { MOST_HANDLES ≤ vec_capacity result }
         ensures fewer { self.new ≡ self.old - 1 }
     {
         match self.buffers.pop() {

@@ -3,6 +3,7 @@ use Rattle.std.proofs.Common.{◌≡◌, ℕ, ◌+◌, ◌*◌, ◌/◌, ◌<◌
 use Rattle.std.specs.Bool.{then_some}
 use Rattle.std.proofs.Math.Nat.{le-max_left, le-max_right, max-le}
 use Rattle.std.proofs.lemmas.Bool.{cases_Bool, false≢true, leb-true, leb-false, ltb-false, lt-ltb, le-ltb}
+use Rattle.b1_model.specs.declared.limits.TheConstants.{MOST_HANDLES, MOST_PAYLOAD}
 use Rattle.b1_model.specs.declared.answers.Reason.{Reason}
 use Rattle.b1_model.specs.declared.answers.Reason.TheVariants as reason
 use Rattle.b1_model.specs.MachineParts.{Slice}
@@ -24,7 +25,7 @@ IsLength-slice_len payload handles = (le-max_left 8 ((payload + 7) / 8 * 8 + 8 *
 pub padded_len-within : (payload handles : ℕ) → padded_len payload + 8 * handles ≤ slice_len payload handles
 padded_len-within payload handles = le-max_right 8 ((payload + 7) / 8 * 8 + 8 * handles)
 
-pub slice_len-most : (payload handles : ℕ) → payload ≤ 65536 → handles ≤ 64 → slice_len payload handles ≤ 66048
+pub slice_len-most : (payload handles : ℕ) → payload ≤ MOST_PAYLOAD → handles ≤ MOST_HANDLES → slice_len payload handles ≤ 66048
 slice_len-most payload handles few_bytes few_handles = max-le (omega arith) (omega arith)
 
 pub fit_le : (len : ℕ) (xs : List PoolSlice) → pool.has_fit len xs ≡ true → len ≤ pool.largest_free xs

@@ -11,14 +11,15 @@ ghost use Rattle.b1_peer_pool.specs.Content.{padded, number_bytes};
 ghost use Rattle.b1_peer_pool.specs.Stored.{full_reason};
 
 use crate::lengths::{padded_length, slice_length};
+use b1_model::{MOST_HANDLES, MOST_PAYLOAD};
 use b1_pool::PoolKind;
 
-/// Takes a slice for a message that fits, of at most 65,536 bytes and 64 handles, and writes the payload at its begin,
+/// Takes a slice for a message that fits, of at most `MOST_PAYLOAD` bytes and `MOST_HANDLES` handles, and writes the payload at its begin,
 /// with zeros up to a multiple of 8. The answer is where the slice begins.
 pub(crate) fn put_message<P: PoolKind>(pool: &mut P, payload: &[u8], handles: u32) -> u32
     requires spare { 1 ≤ P.spare pool.old }
-    requires payload { length payload.now ≤ 65536 }
-    requires handles { handles ≤ 64 }
+    requires payload { length payload.now ≤ MOST_PAYLOAD }
+    requires handles { handles ≤ MOST_HANDLES }
     requires fits { full_reason (all_in_words (P.slices pool.old)) (length payload.now) handles ≡ None }
     ensures offset { result ≡ taken_offset (slice_len (length payload.now) handles) (all_in_words (P.slices pool.old)) }
     ensures slices { all_in_words (P.slices pool.new) ≡ taken (slice_len (length payload.now) handles) (all_in_words (P.slices pool.old)) }

@@ -7,6 +7,3 @@ mod store;
 
 pub use lengths::{padded_length, slice_length};
 pub use store::Store;
-
-#[cfg(test)]
-mod tests;

@@ -11,7 +11,7 @@ ghost use Rattle.b1_peer_pool.specs.Stored.{IsStored, full_reason};
 
 use crate::fill::{put_message, put_numbers};
 use crate::lengths::slice_length;
-use b1_model::Reason;
+use b1_model::{MOST_HANDLES, MOST_PAYLOAD, Reason};
 use b1_pool::{Full, PoolKind};
 use std::alloc::{AllocError, Global};
 use std::marker::Model;
@@ -68,11 +68,11 @@ impl<P: PoolKind> Store<P> {
         self.size
     }
 
-    /// Why a message is refused, if no free slice is long enough for its payload of at most 65,536 bytes and its
-    /// handles, at most 64.
+    /// Why a message is refused, if no free slice is long enough for its payload of at most `MOST_PAYLOAD` bytes and its
+    /// handles, at most `MOST_HANDLES`.
     pub fn refusal(&self, payload: u32, handles: u32) -> Option<Reason>
-        requires payload { payload ≤ 65536 }
-        requires handles { handles ≤ 64 }
+        requires payload { payload ≤ MOST_PAYLOAD }
+        requires handles { handles ≤ MOST_HANDLES }
         ensures reason { result ≡ full_reason self.now.slices payload handles }
         ensures sound { IsStored self.now }
     {
@@ -85,13 +85,13 @@ impl<P: PoolKind> Store<P> {
         }
     }
 
-    /// Takes a slice for a message that isn't refused, of at most 65,536 bytes and 64 handles, and writes the payload
+    /// Takes a slice for a message that isn't refused, of at most `MOST_PAYLOAD` bytes and `MOST_HANDLES` handles, and writes the payload
     /// at its begin, with zeros up to a multiple of 8. The answer is where the slice begins. Other slices in use keep
     /// their bytes.
     pub fn put(&mut self, payload: &[u8], handles: u32) -> u32
         requires spare { 1 ≤ self.old.spare }
-        requires payload { length payload.now ≤ 65536 }
-        requires handles { handles ≤ 64 }
+        requires payload { length payload.now ≤ MOST_PAYLOAD }
+        requires handles { handles ≤ MOST_HANDLES }
         requires fits { full_reason self.old.slices (length payload.now) handles ≡ None }
         ensures offset { result ≡ taken_offset (slice_len (length payload.now) handles) self.old.slices }
         ensures size { self.new.size ≡ self.old.size }

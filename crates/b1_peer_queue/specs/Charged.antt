@@ -1,5 +1,6 @@
 -- What users' accounts have to do with the queue.
 use Rattle.std.specs.Prelude.{◌≡◌, ℕ, ◌≤◌, Bool, true, List, length, Option, Some, None, ⊤, if◌then◌else◌}
+use Rattle.b1_model.specs.declared.limits.TheConstants.{MOST_HANDLES, MOST_PAYLOAD}
 use Rattle.b1_model.specs.declared.naming.Key.{Key}
 use Rattle.b1_model.specs.declared.entries.Entry.{Entry}
 use Rattle.b1_model.specs.declared.entries.Entry.TheVariants.{Message, OwnNotice, ForeignNotice, ReleaseNotice}
@@ -37,7 +38,7 @@ reason_of over = reason.Quota over.what over.own over.others over.limit over.ask
 
 -- an entry that is small enough to be charged: a message's length and its carried nodes
 abbrev pub IsSmall : Entry → Type 0
-IsSmall (Message origin user index serial offset len nodes slots handles payload) = (len ≤ 65536) × (length nodes ≤ 64)
+IsSmall (Message origin user index serial offset len nodes slots handles payload) = (len ≤ MOST_PAYLOAD) × (length nodes ≤ MOST_HANDLES)
 IsSmall (OwnNotice serial index) = ⊤
 IsSmall (ForeignNotice node index) = ⊤
 IsSmall (ReleaseNotice serial) = ⊤

@@ -1,6 +1,7 @@
 -- What contracts see of what waits at a peer, and what is always so of it.
 use Rattle.std.specs.Prelude.{◌≡◌, ◌≢◌, ℕ, ◌≤◌, ◌==◌, Bool, true, not, if◌then◌else◌, List, [], ◌∷◌, length, map, filter, find, sum_by, Option, Some, None, ⊤}
 use Rattle.std.specs.List.{list_any}
+use Rattle.b1_model.specs.declared.limits.TheConstants.{MOST_HANDLES, MOST_PAYLOAD}
 use Rattle.b1_model.specs.declared.naming.Key.{Key}
 use Rattle.b1_model.specs.declared.naming.Limits.{Limits}
 use Rattle.b1_model.specs.declared.parts.Slot.{Slot}
@@ -40,9 +41,9 @@ pub record IsMessage (users : List ℕ) (k : Key) (origin user index len : ℕ) 
   pub index_is : k.index ≡ index
   pub user_known : list_any (λ u. u == user) users ≡ true
   pub len_is : len ≡ payload
-  pub short : payload ≤ 65536
+  pub short : payload ≤ MOST_PAYLOAD
   pub slots_are : slots ≡ nodes
-  pub few : nodes ≤ 64
+  pub few : nodes ≤ MOST_HANDLES
 
 -- the same, of an entry that is one
 abbrev pub IsSound : List ℕ → Key × Entry → Type 0

@@ -11,6 +11,3 @@ mod shelf;
 mod wanted;
 
 pub use mailbox::Mailbox;
-
-#[cfg(test)]
-mod tests;

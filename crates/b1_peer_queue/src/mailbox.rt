@@ -9,7 +9,7 @@ use crate::charges::{put_message_in, take_front_from, take_wanted_from, withdraw
 use crate::messages::{charge_for, reason_of};
 use crate::shelf::Shelf;
 use crate::wanted::Wanted;
-use b1_model::{Entry, Key, Limits, Reason, Slot};
+use b1_model::{Entry, Key, Limits, MOST_HANDLES, MOST_PAYLOAD, Reason, Slot};
 use b1_queue::QueueKind;
 use b1_quota::Quota;
 use std::alloc::{AllocError, Global};
@@ -59,8 +59,8 @@ impl<Q: QueueKind> Mailbox<Q> {
     }
 
     /// What is always so: the keys rise, a driver has staged one message for a place at most, a node has one release
-    /// notice at most, each message's user may be charged, its length is its payload's, up to 65,536, and it has a slot for
-    /// each of its carried nodes, up to 64.
+    /// notice at most, each message's user may be charged, its length is its payload's, up to `MOST_PAYLOAD`, and it has a slot for
+    /// each of its carried nodes, up to `MOST_HANDLES`.
     pub fn facts(&self)
         ensures { IsMail self.now.users self.now.queue }
     {
@@ -98,11 +98,11 @@ impl<Q: QueueKind> Mailbox<Q> {
         self.shelf.reserve(n)
     }
 
-    /// Why a message of a user would be refused, of `payload` bytes, up to 65,536, with `handles` handles, up to 64: the
+    /// Why a message of a user would be refused, of `payload` bytes, up to `MOST_PAYLOAD`, with `handles` handles, up to `MOST_HANDLES`: the
     /// first quantity of entries, bytes and handles that fails its limit; `None` where none does.
     pub fn refusal(&self, user: u32, payload: u32, handles: u32) -> Option<Reason>
-        requires payload { payload ≤ 65536 }
-        requires handles { handles ≤ 64 }
+        requires payload { payload ≤ MOST_PAYLOAD }
+        requires handles { handles ≤ MOST_HANDLES }
         ensures { result ≡ refusal_for self.now user payload handles }
     {
         match self.quota.over(user, charge_for(payload, handles)) {
@@ -115,7 +115,7 @@ impl<Q: QueueKind> Mailbox<Q> {
     ///
     /// There is room for it. Its key has an odd stamp, its origin and its place; no entry has that key, and its driver has
     /// no other message staged for that place. `refusal` has nothing against it, its user may be charged, its length is its
-    /// payload's, up to 65,536, and it has a slot for each of its carried nodes, up to 64.
+    /// payload's, up to `MOST_PAYLOAD`, and it has a slot for each of its carried nodes, up to `MOST_HANDLES`.
     pub fn put_message(&mut self, key: Key, entry: Entry)
         requires spare { 0 < self.old.spare }
         requires message { is_data entry ≡ true }
@@ -202,6 +202,14 @@ impl<Q: QueueKind> Mailbox<Q> {
         ensures taken { self.new ≡ record self.old { queue = drop 1 self.old.queue; spare = if is_some result then self.old.spare + 1 else self.old.spare } }
     {
         take_front_from(&mut self.shelf, &mut self.quota)
+    }
+
+    /// Sets new limits, and leaves the queue with its charges, also where they are above a new limit: of a quantity that
+    /// is, messages are refused until enough was taken.
+    pub fn limit(&mut self, limits: Limits)
+        ensures { self.new ≡ record self.old { limits = limits } }
+    {
+        self.quota.limit(limits);
     }
 
     /// Sets new limits of an empty queue.

@@ -3,13 +3,13 @@ ghost use Rattle.b1_model.specs.MachinePool.{slice_len as slice_len_of};
 ghost use Rattle.b1_model.specs.MachineSend.{with_slots};
 ghost use Rattle.b1_peer_queue.specs.Charged.{IsSmall, HasSlots, charge_for as charge_for_message, charge_of as charge_of_entry, reason_of as reason_for};
 
-use b1_model::{Charge, Entry, Reason, Slot, Slots};
+use b1_model::{Charge, Entry, MOST_HANDLES, MOST_PAYLOAD, Reason, Slot, Slots};
 use b1_quota::Over;
 
 /// The length of a message's slice.
 fn slice_len(payload: u32, handles: u32) -> u32
-    requires payload { payload ≤ 65536 }
-    requires handles { handles ≤ 64 }
+    requires payload { payload ≤ MOST_PAYLOAD }
+    requires handles { handles ≤ MOST_HANDLES }
     ensures { result ≡ slice_len_of payload handles }
 {
     ((payload + 7) / 8 * 8 + 8 * handles).max(8)
@@ -17,8 +17,8 @@ fn slice_len(payload: u32, handles: u32) -> u32
 
 /// What a message is charged.
 pub fn charge_for(payload: u32, handles: u32) -> Charge
-    requires payload { payload ≤ 65536 }
-    requires handles { handles ≤ 64 }
+    requires payload { payload ≤ MOST_PAYLOAD }
+    requires handles { handles ≤ MOST_HANDLES }
     ensures { result ≡ charge_for_message payload handles }
 {
     Charge {

@@ -6,8 +6,6 @@ mod laws;
 mod list;
 pub mod places;
 mod slices;
-#[cfg(test)]
-mod tests;
 
 pub use kind::{Full, Memory, NoSlice, PoolKind};
 pub use laws::other_slices_stay;

@@ -4,7 +4,5 @@
 mod changes;
 mod pool;
 mod sizes;
-#[cfg(test)]
-mod tests;
 
 pub use pool::SizedPool;

@@ -6,6 +6,3 @@ mod plain;
 
 pub use kind::QueueKind;
 pub use plain::PlainQueue;
-
-#[cfg(test)]
-mod tests;

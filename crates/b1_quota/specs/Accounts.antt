@@ -1,11 +1,9 @@
 -- Users' accounts: what they are charged, and how a charge changes them.
-use Rattle.std.specs.Prelude.{◌≢◌, ℕ, ◌+◌, ◌-◌, ◌==◌, ◌≤◌, Bool, true, not, if◌then◌else◌, List, [], ◌∷◌, ◌++◌, map, sum_by, AllPairs}
+use Rattle.std.specs.Prelude.{◌≢◌, ℕ, ◌+◌, ◌-◌, ◌==◌, ◌<◌, ◌^◌, Bool, true, not, if◌then◌else◌, List, [], ◌∷◌, ◌++◌, map, sum_by, AllPairs}
 use Rattle.std.specs.List.{list_any}
 use Rattle.b1_model.specs.declared.answers.Quantity.{Quantity}
 use Rattle.b1_model.specs.declared.answers.Quantity.TheVariants.{Entries, Bytes, Handles}
 use Rattle.b1_model.specs.declared.entries.Charge.{Charge}
-use Rattle.b1_model.specs.declared.naming.Limits.{Limits}
-use Rattle.b1_model.specs.MachineTables.{limit_of}
 use Rattle.b1_quota.specs.declared.accounts.Account.{Account}
 
 -- how much of a quantity a charge has
@@ -65,7 +63,7 @@ with_user user accounts = if has_account user accounts then accounts else accoun
 abbrev pub IsDistinct : List Account → Type 0
 IsDistinct accounts = AllPairs ◌≢◌ (users_of accounts)
 
--- no user has two accounts, and what all are charged is within the limits
-pub record IsSound (limits : Limits) (accounts : List Account) : Type 0 where
+-- no user has two accounts, and what all are charged together can be counted in 32 bits
+pub record IsSound (accounts : List Account) : Type 0 where
   pub distinct : IsDistinct accounts
-  pub within : (what : Quantity) → total what accounts ≤ limit_of what limits
+  pub fits : (what : Quantity) → total what accounts < 2 ^ 32

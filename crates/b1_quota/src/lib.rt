@@ -6,6 +6,3 @@ mod quota;
 
 pub use accounts::Account;
 pub use quota::{Over, Quota};
-
-#[cfg(test)]
-mod tests;

@@ -3,7 +3,7 @@ ghost use Rattle.std.specs.List.{list_any};
 ghost use Rattle.b1_model.specs.declared.answers.Quantity.{Quantity as Quantities};
 ghost use Rattle.b1_model.specs.declared.answers.Quantity.TheVariants.{Entries, Bytes, Handles};
 ghost use Rattle.b1_model.specs.MachineTables.{within_quota};
-ghost use Rattle.b1_quota.specs.Accounts.{amount_in, charged_to, own as own_charge, with_charge, plus, minus, cleared, users_of, has_account, IsDistinct};
+ghost use Rattle.b1_quota.specs.Accounts.{amount_in, charged_to, own as own_charge, with_charge, plus, minus, cleared, users_of, has_account, total, IsDistinct};
 ghost use Rattle.b1_quota.specs.Charges.{over as refusal_of, refusal};
 
 use crate::accounts::{
@@ -47,7 +47,7 @@ impl Model for Quota {
 
     ghost view = { λ q. record { limits = q.limits; home = q.home; accounts = q.accounts.items } };
 
-    ghost invariant = { λ q. IsSound q.limits q.accounts.items };
+    ghost invariant = { λ q. IsSound q.accounts.items };
 }
 
 impl Quota {
@@ -125,7 +125,8 @@ impl Quota {
 
     /// Whether a quantity of a charge passes.
     fn check(&self, user: u32, asked: &Charge, what: Quantity) -> Result<(), Over>
-        ensures { MatchResult result (λ _. refusal_of self.now user asked.now what ≡ None) (λ over. refusal_of self.now user asked.now what ≡ Some over) }
+        ensures refused { MatchResult result (λ _. refusal_of self.now user asked.now what ≡ None) (λ over. refusal_of self.now user asked.now what ≡ Some over) }
+        ensures fits { OnOk result (total what self.now.accounts + amount_in what asked.now < 2 ^ 32) }
     {
         let limit = limit(&self.limits, what);
         let shares = shares_of(&self.accounts, user, what);
@@ -153,6 +154,14 @@ impl Quota {
         ensures users { users_of self.new.accounts ≡ users_of self.old.accounts }
     {
         charge_less(&mut self.accounts, user, &asked);
+    }
+
+    /// Sets new limits, and leaves all charges, also those that are above a new limit: of a quantity that is, more is
+    /// refused until enough was taken back.
+    pub fn limit(&mut self, limits: Limits)
+        ensures { self.new ≡ record self.old { limits = limits } }
+    {
+        self.limits = limits;
     }
 
     /// Charges nobody anything, under new limits.

@@ -1,7 +1,7 @@
 use Rattle.std.proofs.Common.{◌<◌}
 use Rattle.std.proofs.lemmas.List.Elements.{All-from_get_or}
 use native.Mathlib.Omega.{arith}
-use Rattle.b1_doom.proofs.Doomed.{no_more}
+use Rattle.b1_nodes.proofs.Doomed.{no_more}
 use Rattle.b1_inv_peer.specs.Needs.{VisitsAnew}
 use Rattle.b1_peer.proofs.KeptSends.{of_fields}
 use Rattle.b1_peer.proofs.KeptVisits.{visit_fits, visit_kept, visit_seen}

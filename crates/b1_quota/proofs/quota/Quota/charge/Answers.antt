@@ -7,17 +7,17 @@ use Rattle.b1_quota.proofs.QuotaLemmas.{by_quantity, seen-room, seen-plus, seen-
 use Rattle.b1_quota.proofs.quota.Quota.charge.Goals as goal
 
 pub charge_more-requires-clause-entries : goal.charge_more-requires-clause-entries
-charge_more-requires-clause-entries c = omega (arith, seen-room (record { limits = c.self.inside.limits; home = c.self.inside.home; accounts = c.self.inside.accounts.items }) c.args.self.now c.self.view_is c.args.user c.args.asked c.self.invariant Entries c.in_ok-check.ensures)
+charge_more-requires-clause-entries c = omega (arith, seen-room (record { limits = c.self.inside.limits; home = c.self.inside.home; accounts = c.self.inside.accounts.items }) c.args.self.now c.self.view_is c.args.user c.args.asked c.self.invariant Entries c.in_ok-check.ensures.fits)
 
 pub charge_more-requires-clause-bytes : goal.charge_more-requires-clause-bytes
-charge_more-requires-clause-bytes c = omega (arith, seen-room (record { limits = c.self.inside.limits; home = c.self.inside.home; accounts = c.self.inside.accounts.items }) c.args.self.now c.self.view_is c.args.user c.args.asked c.self.invariant Bytes c.in_ok-check-2.ensures)
+charge_more-requires-clause-bytes c = omega (arith, seen-room (record { limits = c.self.inside.limits; home = c.self.inside.home; accounts = c.self.inside.accounts.items }) c.args.self.now c.self.view_is c.args.user c.args.asked c.self.invariant Bytes c.in_ok-check-2.ensures.fits)
 
 pub charge_more-requires-clause-handles : goal.charge_more-requires-clause-handles
-charge_more-requires-clause-handles c = omega (arith, seen-room (record { limits = c.self.inside.limits; home = c.self.inside.home; accounts = c.self.inside.accounts.items }) c.args.self.now c.self.view_is c.args.user c.args.asked c.self.invariant Handles c.in_ok-check-3.ensures)
+charge_more-requires-clause-handles c = omega (arith, seen-room (record { limits = c.self.inside.limits; home = c.self.inside.home; accounts = c.self.inside.accounts.items }) c.args.self.now c.self.view_is c.args.user c.args.asked c.self.invariant Handles c.in_ok-check-3.ensures.fits)
 
 pub invariant_of-self : goal.invariant_of-self
 invariant_of-self c =
-    rw c.charge_more.ensures (seen-plus (record { limits = c.self.inside.limits; home = c.self.inside.home; accounts = c.self.inside.accounts.items }) c.args.self.now c.self.view_is c.args.user c.args.asked c.self.invariant c.requires (by_quantity _ c.in_ok-check.ensures c.in_ok-check-2.ensures c.in_ok-check-3.ensures))
+    rw c.charge_more.ensures (seen-plus (record { limits = c.self.inside.limits; home = c.self.inside.home; accounts = c.self.inside.accounts.items }) c.args.self.now c.self.view_is c.args.user c.args.asked c.self.invariant c.requires (by_quantity _ c.in_ok-check.ensures.fits c.in_ok-check-2.ensures.fits c.in_ok-check-3.ensures.fits))
 
 pub returns-clause-amounts : goal.returns-clause-amounts
 returns-clause-amounts c = λ what passes. rw c.charge_more.ensures (seen-charged_to-plus (record { limits = c.self.inside.limits; home = c.self.inside.home; accounts = c.self.inside.accounts.items }) c.args.self.now c.self.view_is c.args.user c.args.asked c.self.invariant c.requires what passes)

@@ -6,7 +6,7 @@ use Rattle.b1_quota.proofs.QuotaLemmas.{IsSound-cleared}
 use Rattle.b1_quota.proofs.quota.Quota.flush.Goals as goal
 
 pub invariant_of-self : goal.invariant_of-self
-invariant_of-self c = rw c.clear.ensures (IsSound-cleared c.args.limits c.self.inside.accounts.items c.self.invariant.distinct)
+invariant_of-self c = rw c.clear.ensures (IsSound-cleared c.self.inside.accounts.items c.self.invariant.distinct)
 
 pub returns-clause-nothing_charged : goal.returns-clause-nothing_charged
 returns-clause-nothing_charged c = λ what passes. rw c.clear.ensures (charged_to-cleared what passes c.self.inside.accounts.items)

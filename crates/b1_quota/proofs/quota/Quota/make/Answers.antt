@@ -12,7 +12,7 @@ loop-user-preserved c =
     })
 
 pub invariant_of-result : goal.invariant_of-result
-invariant_of-result c = IsSound-uncharged c.args.limits c.loop-user.accounts.items c.loop-user.invariant.distinct c.loop-user.invariant.uncharged
+invariant_of-result c = IsSound-uncharged c.loop-user.accounts.items c.loop-user.invariant.distinct c.loop-user.invariant.uncharged
 
 pub returns-clause-nothing_charged : goal.returns-clause-nothing_charged
 returns-clause-nothing_charged c = λ what passes. charged_to-uncharged what passes c.loop-user.accounts.items c.loop-user.invariant.uncharged

@@ -1,4 +1,0 @@
-use Rattle.b1_heap.proofs.tests.counted_calls.Given as goal
-
-abbrev pub ghosts-put_and_take : goal.ghosts-put_and_take
-ghosts-put_and_take g a = record { name = a.blank.name; parts = a.blank.parts }

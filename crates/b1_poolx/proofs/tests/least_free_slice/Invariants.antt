@@ -1,4 +1,0 @@
-use Rattle.b1_poolx.proofs.tests.least_free_slice.Given as goal
-
-abbrev pub ghosts-found : goal.ghosts-found
-ghosts-found g a = record { name = a.blank.name; parts = a.blank.parts }
