@@ -8,9 +8,9 @@ ghost use Rattle.b1_step.specs.Ordered.{Rising};
 ghost use Rattle.b1_model.specs.MachineTables.{is_number, serial_of};
 
 use b1_handles::HandleTable;
-use b1_peer_queue::Mailbox;
 use b1_model::{NodeState, Reason};
 use b1_nodes::NodeTable;
+use b1_peer_queue::Mailbox;
 use b1_queue::QueueKind;
 use std::alloc::AllocError;
 

@@ -8,8 +8,8 @@ ghost use Rattle.b1_inv_peer.specs.Needs.{IsClock, StagesAnew, VisitsAnew, AreDy
 
 use crate::notices::{stage_foreign, stage_own};
 use crate::state::PeerState;
-use b1_nodes::{doom, doom_live, overflow, refusal};
 use b1_model::{PeerSet, Reason, Visited};
+use b1_nodes::{doom, doom_live, overflow, refusal};
 use b1_pool::PoolKind;
 use b1_queue::QueueKind;
 

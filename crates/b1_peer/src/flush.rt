@@ -5,12 +5,12 @@ ghost use Rattle.b1_inv_peer.specs.PeerOk.{count, is_message};
 ghost use Rattle.b1_peer.specs.Flush.{item_of, room_of, FewCarried};
 
 use crate::state::PeerState;
-use b1_peer_carried::give_up_all;
-use b1_peer_queue::Mailbox;
 use b1_model::{Entry, Key, Limits, MOST_HANDLES};
+use b1_peer_carried::give_up_all;
+use b1_peer_dead::DeadList;
+use b1_peer_queue::Mailbox;
 use b1_pool::PoolKind;
 use b1_queue::QueueKind;
-use b1_peer_dead::DeadList;
 
 impl<Q: QueueKind, P: PoolKind> PeerState<Q, P> {
     /// Gives up the queue and the handles, frees the pool, sets new limits, and raises the epoch.

@@ -10,14 +10,14 @@ ghost use Rattle.b1_peer_pool.specs.Slices.{is_queued};
 ghost use Rattle.b1_peer_pool.specs.Stored.{IsStored};
 ghost use Rattle.b1_peer_carried.specs.Carry.{AreCarried};
 
-use b1_peer_carried::unexpect_all;
 use b1_handles::HandleTable;
-use b1_peer_queue::Mailbox;
 use b1_model::{Entry, Key, MOST_HANDLES};
-use b1_pool::PoolKind;
-use b1_queue::QueueKind;
+use b1_peer_carried::unexpect_all;
 use b1_peer_dead::DeadList;
 use b1_peer_pool::Store;
+use b1_peer_queue::Mailbox;
+use b1_pool::PoolKind;
+use b1_queue::QueueKind;
 
 /// Gives a message's slice back, and counts one fewer queued slot for each node of another peer that it carries.
 pub fn take_back<P: PoolKind>(

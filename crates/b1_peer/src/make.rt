@@ -8,13 +8,13 @@ ghost use Rattle.b1_model.specs.MachineStep.{peer_before, wire_made, wire_counte
 
 use crate::state::PeerState;
 use b1_handles::HandleTable;
-use b1_peer_queue::Mailbox;
 use b1_model::{NodeRef, Opening};
 use b1_nodes::NodeTable;
-use b1_pool::PoolKind;
-use b1_queue::QueueKind;
 use b1_peer_dead::{DeadList, Stock};
 use b1_peer_pool::Store;
+use b1_peer_queue::Mailbox;
+use b1_pool::PoolKind;
+use b1_queue::QueueKind;
 use std::alloc::{AllocError, Global};
 
 /// The users of an opening's peers. An error is want of memory.

@@ -6,8 +6,8 @@ ghost use Rattle.b1_handles.specs.Handles.{needs_notice};
 ghost use Rattle.b1_peer.specs.Destructions.{notice_key, all_own_noticed, OwnNoticesFit, notified, all_notified, any_needs, NoticesAreNew};
 
 use b1_handles::HandleTable;
-use b1_peer_queue::Mailbox;
 use b1_model::{Entry, Key, NodeRef};
+use b1_peer_queue::Mailbox;
 use b1_queue::QueueKind;
 
 /// Stages the own notice of each doomed node, with its place in their list, and takes its release notice back. The clock

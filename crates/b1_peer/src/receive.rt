@@ -12,13 +12,13 @@ ghost use Rattle.b1_peer_carried.specs.Carry.{AreCarried, HasTables, may_arrive}
 ghost use Rattle.b1_peer.specs.Answers.{IsDelivered};
 ghost use Rattle.b1_peer.specs.Arrivals.{HasArrived};
 
-use b1_peer_carried::arrive;
 use b1_handles::HandleTable;
 use b1_model::{Bytes, Key, MOST_HANDLES, MOST_PAYLOAD, NodeRef, Nums, Receipt, Slot};
 use b1_nodes::NodeTable;
-use b1_pool::PoolKind;
+use b1_peer_carried::arrive;
 use b1_peer_dead::DeadList;
 use b1_peer_pool::{Store, padded_length};
+use b1_pool::PoolKind;
 
 /// The receipt of a message: its slots arrive, its slice is published with the handles' numbers, and the references that
 /// are given up at once come on the dead list.

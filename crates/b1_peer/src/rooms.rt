@@ -4,11 +4,11 @@ ghost use Rattle.std.specs.Prelude.{◌+◌, length, OnOk};
 ghost use Rattle.b1_peer_pool.specs.Stored.{IsStored};
 ghost use Rattle.b1_peer.specs.Rooms.{MoreRoom, Enough};
 
+use b1_peer_dead::{DeadList, Stock};
+use b1_peer_pool::Store;
 use b1_peer_queue::Mailbox;
 use b1_pool::PoolKind;
 use b1_queue::QueueKind;
-use b1_peer_dead::{DeadList, Stock};
-use b1_peer_pool::Store;
 use std::alloc::AllocError;
 
 /// Makes room for one more message, and for the notices and dead items of `most` nodes and records. An error is want of

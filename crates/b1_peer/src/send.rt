@@ -6,11 +6,13 @@ ghost use Rattle.b1_peer.specs.Answers.{Begins};
 
 use crate::begin::{has_odd, held_dead, make_all, own_dead, room_for_nodes};
 use crate::state::PeerState;
+use b1_model::{
+    Begun, MOST_DESTINATIONS, MOST_HANDLES, MOST_PAYLOAD, NodeRef, NodeRefs, Reason, SendCmd,
+};
 use b1_nodes::overflow;
-use b1_model::{Begun, MOST_DESTINATIONS, MOST_HANDLES, MOST_PAYLOAD, NodeRef, NodeRefs, Reason, SendCmd};
+use b1_peer_dead::put_last;
 use b1_pool::PoolKind;
 use b1_queue::QueueKind;
-use b1_peer_dead::put_last;
 
 impl<Q: QueueKind, P: PoolKind> PeerState<Q, P> {
     /// The first refusal of a SEND at its sender, want of memory aside. It takes no memory.

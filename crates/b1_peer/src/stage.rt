@@ -10,8 +10,11 @@ ghost use Rattle.b1_inv_peer.specs.Needs.{IsClock};
 
 use crate::rooms::make_room;
 use crate::state::PeerState;
+use b1_model::{
+    Bytes, CLOCK_LIMIT, Entry, Key, MOST_HANDLES, MOST_PAYLOAD, NodeRef, NodeRefs, NodeState, Nums,
+    Reason, Slot, Slots,
+};
 use b1_peer_carried::expect_all;
-use b1_model::{Bytes, CLOCK_LIMIT, Entry, Key, MOST_HANDLES, MOST_PAYLOAD, NodeRef, NodeRefs, NodeState, Nums, Reason, Slot, Slots};
 use b1_pool::PoolKind;
 use b1_queue::QueueKind;
 use std::alloc::{AllocError, Global};

@@ -1,10 +1,10 @@
 use b1_handles::HandleTable;
-use b1_peer_queue::Mailbox;
 use b1_nodes::NodeTable;
-use b1_pool::PoolKind;
-use b1_queue::QueueKind;
 use b1_peer_dead::{DeadList, Stock};
 use b1_peer_pool::Store;
+use b1_peer_queue::Mailbox;
+use b1_pool::PoolKind;
+use b1_queue::QueueKind;
 use std::alloc::Global;
 use std::marker::Model;
 
