@@ -1,6 +1,7 @@
 -- Which outcomes can come, by the event that is next.
-use Rattle.std.proofs.Common.{◌≡◌, ℕ, Bool, true, false, List, [], ◌∷◌, Option, Some, None, Result, Err, refl, ap}
+use Rattle.std.proofs.Common.{◌≡◌, ◌≢◌, ℕ, Bool, true, false, List, [], ◌∷◌, Option, Some, None, Result, Err, refl, ap}
 use Rattle.b1_model.specs.declared.commands.Command.{Command}
+use Rattle.b1_model.specs.declared.commands.Command.TheVariants as cmd
 use Rattle.b1_model.specs.declared.answers.Reason.{Reason}
 use Rattle.b1_model.specs.declared.answers.Reason.TheVariants.{Memory}
 use Rattle.b1_driver.specs.declared.stage.Open.{Open}
@@ -15,7 +16,7 @@ use Rattle.b1_driver.specs.declared.stage.Stage.{Stage}
 use Rattle.b1_driver.specs.declared.stage.Stage.TheVariants as stage
 use Rattle.b1_driver.specs.declared.stage.SendStage.TheVariants.{Staging, Unstaging, Attaching, Stamping, Syncing, Committing}
 use Rattle.b1_driver.specs.declared.stage.DestroyStage.TheVariants.{Visiting, Dooming, SyncingNotices, CommittingOwn, CommittingNotices}
-use Rattle.b1_driver.specs.Stages.{phase_of, doing_of, is_starting}
+use Rattle.b1_driver.specs.Stages.{phase_of, doing_of, is_dropping, is_starting, OwesDrop}
 use Rattle.b1_driver.specs.Parts.{fits, is_drop, hands_back}
 
 fits_drop : (peer serial holder k clock : ℕ) (outcome : Outcome) → fits (act.DropRefs peer serial holder k clock) outcome ≡ true → is_drop outcome ≡ true
@@ -102,3 +103,43 @@ begins d command doomed one is_open e = starts_there d command doomed one (out.B
 pub same_doing : (d : DriverPart) (doing : Option Open) (a b : List ℕ) → d.doing ≡ doing_of a doing → next_action d ≡ act.BeginDestroy → doing_of b doing ≡ doing_of a doing
 same_doing d None a b is_open e = refl
 same_doing d (Some one) a b is_open e = ap (λ p. Some (record { command = one.command; phase = p })) (same_phase one.stage b a (begins d one.command a one.stage is_open e))
+
+rests_phase : (me : ℕ) (shut : Bool) (command : Command) (doomed : List ℕ) (one : Stage) → phase_action me shut command (phase_of doomed one) ≡ act.Rest → is_dropping one ≡ true
+rests_phase me true command doomed stage.Starting e = absurd cc
+rests_phase me false cmd.Disconnect doomed stage.Starting e = absurd cc
+rests_phase me false cmd.Query doomed stage.Starting e = absurd cc
+rests_phase me false (cmd.Reset limits) doomed stage.Starting e = absurd cc
+rests_phase me false (cmd.Limit limits) doomed stage.Starting e = absurd cc
+rests_phase me false (cmd.Release number) doomed stage.Starting e = absurd cc
+rests_phase me false (cmd.Destroy numbers) doomed stage.Starting e = absurd cc
+rests_phase me false (cmd.SliceRelease offset) doomed stage.Starting e = absurd cc
+rests_phase me false (cmd.Send c) doomed stage.Starting e = absurd cc
+rests_phase me false cmd.Recv doomed stage.Starting e = absurd cc
+rests_phase me false cmd.Await doomed stage.Starting e = absurd cc
+rests_phase me shut command doomed (stage.Sending (Staging begun places slots collected)) e = absurd cc
+rests_phase me shut command doomed (stage.Sending (Unstaging begun places refused place)) e = absurd cc
+rests_phase me shut command doomed (stage.Sending (Attaching sending place handle)) e = absurd cc
+rests_phase me shut command doomed (stage.Sending (Stamping sending)) e = absurd cc
+rests_phase me shut command doomed (stage.Sending (Syncing sending stamp place)) e = absurd cc
+rests_phase me shut command doomed (stage.Sending (Committing sending stamp place)) e = absurd cc
+rests_phase me shut command doomed stage.Dropping e = refl
+rests_phase me shut command doomed (stage.Reaping answer) e = absurd cc
+rests_phase me shut command doomed (stage.Destroying (Visiting visits left)) e = absurd cc
+rests_phase me shut command doomed (stage.Destroying (Dooming visits)) e = absurd cc
+rests_phase me shut command doomed (stage.Destroying (SyncingNotices visits stamp place)) e = absurd cc
+rests_phase me shut command doomed (stage.Destroying (CommittingOwn visits stamp)) e = absurd cc
+rests_phase me shut command doomed (stage.Destroying (CommittingNotices visits stamp place)) e = absurd cc
+rests_phase me shut command doomed (stage.Flushing stamp) e = absurd cc
+
+rests_open : (me : ℕ) (shut : Bool) (command : Command) (doomed : List ℕ) (one : Stage) (owed : List OwedDrop) → elim owed [ [] ↦ phase_action me shut command (phase_of doomed one) | drop ∷ rest ↦ act.DropRefs drop.node.owner drop.node.serial drop.holder drop.amount drop.clock ] ≡ act.Rest → (is_dropping one ≡ true → owed ≢ []) → ⊥
+rests_open me shut command doomed one [] e owes = owes (rests_phase me shut command doomed one e) refl
+rests_open me shut command doomed one (drop ∷ rest) e owes = cc
+
+-- a driver rests only where no command is open
+pub rests : (d : DriverPart) (doing : Option Open) (doomed : List ℕ) → d.doing ≡ doing_of doomed doing → OwesDrop d.owed doing → next_action d ≡ act.Rest → d.doing ≡ None
+rests d None doomed is owes e = is
+rests d (Some one) doomed is owes e = absurd (rests_open d.me d.shut one.command doomed one.stage d.owed (rw is at e) owes)
+
+-- and there it does
+pub rests_there : (d : DriverPart) → d.doing ≡ None → next_action d ≡ act.Rest
+rests_there d e = rw e refl

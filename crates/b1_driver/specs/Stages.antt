@@ -1,5 +1,5 @@
 -- What the stages of an open command stand for, and what holds in them.
-use Rattle.std.specs.Prelude.{◌≡◌, ℕ, Bool, true, false, ◌+◌, ◌<◌, ◌≤◌, ◌^◌, List, [], map, length, Option, Some, None, vec_capacity, ⊤}
+use Rattle.std.specs.Prelude.{◌≡◌, ◌≢◌, ℕ, Bool, true, false, ◌+◌, ◌<◌, ◌≤◌, ◌^◌, List, [], map, length, Option, Some, None, vec_capacity, ⊤}
 use Rattle.b1_model.specs.declared.answers.Reason.{Reason}
 use Rattle.b1_model.specs.declared.parts.Begun.{Begun}
 use Rattle.b1_model.specs.declared.parts.Slot.{Slot}
@@ -8,6 +8,7 @@ use Rattle.b1_model.specs.declared.events.Phase.{Phase}
 use Rattle.b1_model.specs.declared.events.Phase.TheVariants as phase
 use Rattle.b1_model.specs.declared.events.Doing.{Doing}
 use Rattle.b1_model.specs.declared.events.Destruction.{Destruction}
+use Rattle.b1_model.specs.declared.events.OwedDrop.{OwedDrop}
 use Rattle.b1_model.specs.declared.commands.Command.{Command}
 use Rattle.b1_model.specs.declared.events.Outcome.{Outcome}
 use Rattle.b1_model.specs.declared.records.Call.{Call}
@@ -160,6 +161,25 @@ is_starting stage.Dropping = false
 is_starting (stage.Reaping answer) = false
 is_starting (stage.Destroying one) = false
 is_starting (stage.Flushing stamp) = false
+
+-- a release that is done is left with its drop alone
+abbrev pub is_dropping : Stage → Bool
+is_dropping stage.Starting = false
+is_dropping (stage.Sending one) = false
+is_dropping stage.Dropping = true
+is_dropping (stage.Reaping answer) = false
+is_dropping (stage.Destroying one) = false
+is_dropping (stage.Flushing stamp) = false
+
+-- the same, after an event
+abbrev pub is_dropping_after : After → Bool
+is_dropping_after (after.Goes one) = is_dropping one
+is_dropping_after (after.Ends answer) = false
+
+-- a release that is done still owes its drop
+abbrev pub OwesDrop : List OwedDrop → Option Open → Type 0
+OwesDrop owed None = ⊤
+OwesDrop owed (Some one) = is_dropping one.stage ≡ true → owed ≢ []
 
 -- what an event's answer makes of a stage, whatever the driver, its command and its doomed nodes
 abbrev pub Turns : Stage → Outcome → After → Type 0

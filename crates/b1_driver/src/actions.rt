@@ -12,7 +12,7 @@ fn first_action(command: &Command) -> Action
     ensures { result ≡ first_action command.now }
 {
     match command {
-        Command::Query | Command::SliceRelease { .. } => Action::Local,
+        Command::Query | Command::Limit { .. } | Command::SliceRelease { .. } => Action::Local,
         Command::Disconnect | Command::Reset { .. } | Command::Destroy { .. } => {
             Action::BeginDestroy
         }

@@ -4,7 +4,7 @@ ghost use Rattle.b1_model.specs.MachineTables.{with_peer};
 ghost use Rattle.b1_driver.specs.Stages.{destroy_phase, turn_of, with_doomed, handles_after, IsDestruction, IsAfter};
 
 use crate::stage::{After, DestroyStage, Stage, Visits};
-use b1_model::{Answer, Command, PeerSet, Visited};
+use b1_model::{Answer, Command, MOST_PEERS, PeerSet, Visited};
 
 /// A destruction visits who is left, or is at its stamp.
 pub fn visiting(visits: Visits, left: PeerSet) -> DestroyStage
@@ -19,7 +19,7 @@ pub fn visiting(visits: Visits, left: PeerSet) -> DestroyStage
 
 /// A visit's clock is collected, and its peer joins the staged ones where a notice was staged.
 pub fn with_visit(visits: Visits, peer: u32, got: Visited) -> Visits
-    requires { peer < 64 }
+    requires { peer < MOST_PEERS }
     ensures { (doomed : List ℕ) → with_doomed doomed result ≡ with_visit (with_doomed doomed visits) peer got }
 {
     let mut visits = visits;
@@ -30,7 +30,7 @@ pub fn with_visit(visits: Visits, peer: u32, got: Visited) -> Visits
 
 // A peer joins the others, if it is to.
 fn join(staged: &mut PeerSet, peer: u32, joins: bool)
-    requires { peer < 64 }
+    requires { peer < MOST_PEERS }
     ensures { staged.new ≡ (if joins then with_peer peer staged.old else staged.old) }
 {
     if joins {
@@ -83,10 +83,11 @@ pub fn committing_notices(command: &Command, visits: Visits, stamp: u64, place: 
 pub fn take_peer(left: &mut PeerSet) -> u32
     requires { 0 < length left.old }
     ensures peer { (me : ℕ) → result ≡ get_or left.old 0 me }
-    ensures few { result < 64 }
+    ensures few { result < MOST_PEERS }
     ensures rest { left.new ≡ drop 1 left.old }
 {
-    let first = left.as_slice()[0];
-    left.take_first();
-    first
+    match left.take_first() {
+        Some(first) => first,
+        None => unreachable!(),
+    }
 }

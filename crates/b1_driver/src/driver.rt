@@ -1,5 +1,5 @@
-ghost use Rattle.std.specs.Prelude.{◌≡◌, ◌+◌, ◌≤◌, [], Some, None, true, false, length, max, option_copied, IfOk, OnOk, OnErr, vec_capacity};
-ghost use Rattle.b1_model.specs.declared.events.Action.TheVariants.{BeginDestroy};
+ghost use Rattle.std.specs.Prelude.{◌≡◌, ◌↔◌, ◌+◌, ◌≤◌, [], Some, None, true, false, length, max, option_copied, IfOk, OnOk, OnErr, vec_capacity};
+ghost use Rattle.b1_model.specs.declared.events.Action.TheVariants.{BeginDestroy, Rest};
 ghost use Rattle.b1_model.specs.declared.events.Outcome.TheVariants as out;
 ghost use Rattle.b1_model.specs.declared.events.Phase.TheVariants.{Starting};
 ghost use Rattle.b1_model.specs.MachineDriver.{next_action};
@@ -44,7 +44,7 @@ pub struct DriverState {
 
 impl Model for DriverState {
     ghost use Rattle.std.specs.Prelude.{◌≡◌, ◌-◌, ◌≤◌, vec_len, vec_capacity};
-    ghost use Rattle.b1_driver.specs.Stages.{doing_of, open_handles, IsOpen};
+    ghost use Rattle.b1_driver.specs.Stages.{doing_of, open_handles, IsOpen, OwesDrop};
     ghost use Rattle.b1_model.specs.MachineEvents.{no_begun};
     ghost use Rattle.b1_driver.specs.Parts.{Driver, part_of};
 
@@ -64,6 +64,7 @@ impl Model for DriverState {
       doing : IsOpen (vec_len d.calls) (vec_capacity d.calls) d.doing;
       handles : open_handles d.doing ≤ d.owing.room;
       drops : d.room.handles ≤ d.owing.room;
+      owes : OwesDrop d.owing.drops d.doing;
       nothing : d.nothing ≡ no_begun;
     } };
 }
@@ -174,7 +175,8 @@ impl DriverState {
 
     /// The event to do; `Rest` exactly where no command is open.
     pub fn next(&self) -> Action
-        ensures { result ≡ next_action self.now.part }
+        ensures action { result ≡ next_action self.now.part }
+        ensures rest { (result ≡ Rest) ↔ (self.now.part.doing ≡ None) }
     {
         let Some(one) = &self.doing else {
             return Action::Rest;

@@ -1,8 +1,9 @@
-ghost use Rattle.std.specs.Prelude.{◌≡◌, ◌+◌, ◌≤◌, ◌<◌, ◌++◌, ℕ, List, Some, vec_len, vec_capacity};
+ghost use Rattle.std.specs.Prelude.{◌≡◌, ◌≢◌, [], true, ◌+◌, ◌≤◌, ◌<◌, ◌++◌, ℕ, List, Some, vec_len, vec_capacity};
 ghost use Rattle.b1_model.specs.declared.commands.Command.{Command as Commands};
+ghost use Rattle.b1_model.specs.declared.events.OwedDrop.{OwedDrop as OwedDrops};
 ghost use Rattle.b1_model.specs.MachineTook.{answer_of, as_call, call_of, is_waiting, open_by, stamped_answer};
 ghost use Rattle.b1_driver.specs.Parts.{settled, settled_turn};
-ghost use Rattle.b1_driver.specs.Stages.{calls_after, doing_of, open_after, open_handles, phase_of, send_phase, turn_of, handles_in, handles_after, IsStage, IsAfter, IsOpen};
+ghost use Rattle.b1_driver.specs.Stages.{calls_after, doing_of, open_after, open_handles, phase_of, send_phase, turn_of, handles_in, handles_after, is_dropping_after, IsStage, IsAfter, IsOpen, OwesDrop};
 
 use crate::facts::is_await;
 use crate::owing::Owing;
@@ -16,6 +17,7 @@ pub fn settle(stage: Stage, owing: &Owing, told: bool) -> After
     ensures turn { (command : Commands) (doomed : List ℕ) → turn_of doomed result ≡ settled owing.now.drops told command (phase_of doomed stage) }
     ensures holds { IsAfter result }
     ensures handles { handles_after result ≤ handles_in stage }
+    ensures owes { is_dropping_after result ≡ true → owing.now.drops ≢ [] }
 {
     if !owing.is_empty() {
         return After::Goes(stage);
@@ -96,6 +98,7 @@ pub fn settle_after(after: After, owing: &Owing, told: bool) -> After
     ensures turn { (command : Commands) (doomed : List ℕ) → turn_of doomed result ≡ settled_turn owing.now.drops told command (turn_of doomed after) }
     ensures holds { IsAfter result }
     ensures handles { handles_after result ≤ handles_after after }
+    ensures owes { is_dropping_after result ≡ true → owing.now.drops ≢ [] }
 {
     match after {
         After::Goes(stage) => settle(stage, owing, told),
@@ -185,6 +188,7 @@ pub fn go_on(doing: &mut Option<Open>, calls: &mut Vec<Call>, command: Command, 
     ensures len { vec_len calls.new ≤ vec_capacity calls.new }
     ensures holds { IsOpen (vec_len calls.new) (vec_capacity calls.new) doing.new }
     ensures handles { open_handles doing.new ≡ handles_after after }
+    ensures owes { (owed : List OwedDrops) → (is_dropping_after after ≡ true → owed ≢ []) → OwesDrop owed doing.new }
 {
     match after {
         After::Goes(stage) => *doing = Some(Open { command, stage }),

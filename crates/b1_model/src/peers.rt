@@ -1,4 +1,4 @@
-ghost use Rattle.std.specs.Prelude.{◌≡◌, ◌==◌, ◌||◌, ◌<◌, ℕ, [], drop, length, nat_le, position, slice_get};
+ghost use Rattle.std.specs.Prelude.{◌≡◌, ◌==◌, ◌||◌, ◌<◌, ℕ, [], drop, length, nat_le, position, slice_get, IfSome};
 ghost use Rattle.std.specs.List.{list_any};
 ghost use Rattle.b1_model.specs.MachineTables.{with_peer};
 ghost use Rattle.b1_model.specs.Peers.{IsPeerSet};
@@ -87,6 +87,7 @@ impl PeerSet {
     pub fn take_first(&mut self) -> Option<u32>
         ensures first { result ≡ slice_get self.old 0 }
         ensures rest { self.new ≡ drop 1 self.old }
+        ensures few { IfSome result (λ peer. peer < MOST_PEERS) }
     {
         if self.peers.is_empty() {
             return None;
