@@ -23,6 +23,3 @@ pub use kinds::{Kind, begins_line, begins_word, fits_line, fits_word};
 pub use lists::{begins_list, fits_list, read_list};
 pub use splitting::{begins_text, is_text, split};
 pub use writing::{write_bytes, write_command, write_item, write_list};
-
-#[cfg(test)]
-mod tests;
