@@ -1,11 +1,11 @@
 -- An accepted text is shorter than the most that is read.
-use Rattle.std.proofs.Common.{◌≡◌, ℕ, suc, ◌+◌, ◌-◌, ◌*◌, ◌/◌, ◌%◌, ◌^◌, ◌<◌, ◌≤◌, Bool, true, false, cond, eqb, List, [], ◌∷◌, ◌++◌, length, map, codes, refl, ap, ◌∙◌, arith}
+use Rattle.std.proofs.Common.{◌≡◌, ℕ, ◌+◌, ◌-◌, ◌*◌, ◌/◌, ◌%◌, ◌<◌, ◌≤◌, Bool, true, false, cond, eqb, List, [], ◌∷◌, ◌++◌, length, map, codes, refl, ap, arith}
 use Rattle.std.specs.Fmt.{decimal}
 use Rattle.std.specs.List.{flat_map, enumerate_from, AllByRecursion}
 use Rattle.std.proofs.lemmas.Fmt.{length-decimal-le}
 use Rattle.std.proofs.lemmas.List.{length-append}
 use Rattle.std.proofs.lemmas.List.Concat.{flat_map-cons}
-use Rattle.b1_model.specs.declared.limits.TheConstants.{MOST_TEXT, MOST_SCRIPT}
+use Rattle.b1_model.specs.declared.limits.TheConstants.{MOST_TEXT}
 use Rattle.b1_model.specs.declared.commands.Command.{Command}
 use Rattle.b1_model.specs.declared.commands.Command.TheVariants.{Disconnect, Query, Reset, Limit, Release, Destroy, SliceRelease, Send, Recv, Await}
 use Rattle.b1_model.specs.declared.commands.SendCmd.{SendCmd}
@@ -14,13 +14,13 @@ use Rattle.b1_model.specs.declared.naming.PeerSpec.{PeerSpec}
 use Rattle.b1_model.specs.declared.naming.Wire.{Wire}
 use Rattle.b1_records.specs.Spelling.{Is32, Is64, AreLimits}
 use Rattle.b1_script.specs.declared.script.Script.{Script}
-use Rattle.b1_script.specs.Spelling.{parts, IsSpec}
+use Rattle.b1_script.specs.Spelling.{IsSpec}
 use Rattle.b1_text_words.specs.declared.items.Form.TheVariants.{Script as in_script}
 use Rattle.b1_text_words.specs.Commands.{command_text_in, limits_text, flag_of}
 use Rattle.b1_text_words.specs.Numbers.{script_handle_text, script_offset_text, slot_text, list_text, hex_pair, hex_text}
 use Rattle.b1_text.specs.declared.statement.Statement.{Statement}
 use Rattle.b1_text.specs.declared.statement.Statement.TheVariants as says
-use Rattle.b1_text.specs.Texts.{peer_text, wire_text, statement_text, line_text, list_statements, lists_statements, opening_statements, statements, script_text}
+use Rattle.b1_text.specs.Texts.{peer_text, wire_text, line_text, list_statements, lists_statements, opening_statements, statements}
 use Rattle.b1_text.specs.Accepted.{IsText}
 use Rattle.b1_text.specs.Drafts.{HasWireFields, IsCarried, Fits, record_len}
 use Rattle.b1_text.proofs.Fitting.{statements_fit}

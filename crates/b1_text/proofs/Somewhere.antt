@@ -2,9 +2,8 @@
 use Rattle.std.proofs.Common.{◌≡◌, ◌≢◌, ℕ, zero, suc, ◌+◌, ◌-◌, ◌<◌, ◌≤◌, List, [], ◌∷◌, ◌++◌, length, take, drop, Option, Some, None, IsSome, ◌⊎◌, inl, inr, refl, sym, ap, subst, ◌∙◌, arith}
 use Rattle.std.proofs.lemmas.Bool.{cases_lt, cases_eq}
 use Rattle.std.proofs.lemmas.List.{length-append, length-drop, take_all}
-use Rattle.b1_script.specs.declared.script.Script.{Script}
 use Rattle.b1_text.specs.declared.draft.Draft.{Draft}
-use Rattle.b1_text.specs.declared.draft.Draft.TheVariants.{Empty, Whole}
+use Rattle.b1_text.specs.declared.draft.Draft.TheVariants.{Empty}
 use Rattle.b1_text.specs.Accepted.{IsAccepted, IsLine, BreaksAt}
 use Rattle.b1_text.specs.Drafts.{step, IsNext}
 use Rattle.b1_text.specs.Progress.{Makes, Leads, IsFirstLine}

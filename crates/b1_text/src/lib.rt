@@ -12,7 +12,7 @@ mod lines;
 mod printing;
 mod statement;
 
-ghost use Rattle.std.specs.Prelude.{◌≡◌, ◌<◌, ◌≤◌, ℕ, List, Ok, IfOk, IfErr, length};
+ghost use Rattle.std.specs.Prelude.{◌≡◌, ◌<◌, ℕ, List, Ok, IfOk, IfErr, length};
 ghost use Rattle.b1_records.specs.Reading.{Gives};
 ghost use Rattle.b1_script.specs.declared.script.Script.{Script};
 ghost use Rattle.b1_script.specs.Spelling.{HasSpelling};
