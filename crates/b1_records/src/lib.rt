@@ -8,6 +8,3 @@ mod writing;
 
 pub use reading::{decode, decode_within, every_place_has_a_record_or_a_fault};
 pub use writing::encode;
-
-#[cfg(test)]
-mod tests;

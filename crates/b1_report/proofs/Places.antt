@@ -1,9 +1,9 @@
 -- Bytes stop being a report in one place at most.
-use Rattle.std.proofs.Common.{◌≡◌, ℕ, ◌+◌, ◌-◌, ◌<◌, ◌≤◌, Bool, true, false, cond, eqb, List, [], ◌∷◌, ◌++◌, length, take, drop, refl, sym, ap, subst, ◌∙◌, arith, inl, inr}
+use Rattle.std.proofs.Common.{◌≡◌, ℕ, ◌+◌, ◌-◌, ◌<◌, Bool, true, false, cond, eqb, List, [], ◌∷◌, ◌++◌, length, take, drop, refl, sym, ap, subst, ◌∙◌, arith, inl, inr}
 use Rattle.std.proofs.lemmas.Bool.{cases_lt}
-use Rattle.std.proofs.lemmas.List.{append_assoc, append-nil, length-append, length-take, take_at, drop_at, take-append-drop, take_all}
+use Rattle.std.proofs.lemmas.List.{append_assoc, append-nil, length-append, length-take, take_at, drop_at, take-append-drop}
 use Rattle.b1_model.specs.declared.records.Record.{Record}
-use Rattle.b1_report.specs.Parsing.{IsReport, CanGoOn, AreLines, first_line, LineBreaks, EndsEarly, IsFault}
+use Rattle.b1_report.specs.Parsing.{IsReport, CanGoOn, AreLines, first_line, LineBreaks, IsFault}
 use Rattle.b1_report.proofs.Faults.{first_front}
 
 -- what goes on with more bytes goes on without them

@@ -99,6 +99,3 @@ pub fn a_report_breaks_in_one_place()
     ensures none { (peers : ℕ) (bytes : List ℕ) (rec : Record) (at : ℕ) → IsReport peers bytes rec
         → ¬ (IsFault peers bytes at) }
 {}
-
-#[cfg(test)]
-mod tests;

@@ -14,6 +14,3 @@ mod unread;
 pub use answers::{answers_have_texts_of_their_own, read_answer};
 pub use lines::{Line, Place, read_line};
 pub use unread::{Stop, Unread};
-
-#[cfg(test)]
-mod tests;

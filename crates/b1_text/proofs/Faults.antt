@@ -10,7 +10,7 @@ use Rattle.b1_text.specs.declared.draft.Draft.{Draft}
 use Rattle.b1_text.specs.declared.draft.Draft.TheVariants.{Whole}
 use Rattle.b1_text.specs.declared.statement.Statement.{Statement}
 use Rattle.b1_text.specs.Texts.{statement_text, line_text}
-use Rattle.b1_text.specs.Accepted.{IsAccepted, CanGoOn, IsLine, AreLines, IsFault, line, last_line, cut}
+use Rattle.b1_text.specs.Accepted.{IsAccepted, CanGoOn, IsLine, AreLines, IsFault, BreaksAt, line, last_line, cut}
 use Rattle.b1_text.specs.Drafts.{Fits, step, IsNext}
 use Rattle.b1_text_words.specs.Words.{Reads, Begins}
 use Rattle.b1_text.specs.Progress.{Makes, Leads, LeadsTo, IsFirstLine, Answers}
@@ -62,23 +62,26 @@ made_line bytes word at end d e within first m l =
 
 -- ---- faults
 
+pub cut_break : (bytes : List ℕ) (d : Draft) (at : ℕ) → Makes bytes d → ((s : Script) → d ≡ Whole s → ⊥) → at ≡ length bytes → BreaksAt bytes at
+cut_break bytes d at m not_whole end = cut (record { good = good bytes d m; short = λ a. not_whole a.0 (whole_of bytes d a.0 m a.1) }) end
+
 pub cut_fault : (bytes : List ℕ) (d : Draft) (at : ℕ) → Makes bytes d → ((s : Script) → d ≡ Whole s → ⊥) → at ≡ length bytes → length bytes ≤ MOST_TEXT → IsFault bytes (Bad at Line)
-cut_fault bytes d at m not_whole end short =
-    (cut (record { good = good bytes d m; short = λ a. not_whole a.0 (whole_of bytes d a.0 m a.1) }) end, short)
+cut_fault bytes d at m not_whole end short = (cut_break bytes d at m not_whole end, short)
+
+pub wrong_break : (bytes word : List ℕ) (at end : ℕ) (d : Draft) → at ≤ length bytes → IsFirstLine bytes at word end → Makes (take at bytes) d → ¬ IsNext d word → BreaksAt bytes at
+wrong_break bytes word at end d within first m none =
+    let split : bytes ≡ take at bytes ++ word ++ 10 ∷ drop end bytes
+    = sym (take-append-drop at bytes) ∙ ap (λ (x : List ℕ). take at bytes ++ x) first.split ∙ sym (append_assoc (take at bytes) word (10 ∷ drop end bytes)) in
+    line (take at bytes) word (drop end bytes) (record {
+      split = split;
+      lines = made_lines (take at bytes) d m;
+      unbroken = first.unbroken;
+      good = good (take at bytes) d m;
+      wrong = wrong (take at bytes) word d m first.unbroken none;
+    }) (front_len at bytes within)
 
 pub wrong_fault : (bytes word : List ℕ) (at end : ℕ) (d : Draft) → at ≤ length bytes → IsFirstLine bytes at word end → Makes (take at bytes) d → ¬ IsNext d word → length bytes ≤ MOST_TEXT → IsFault bytes (Bad at Line)
-wrong_fault bytes word at end d within first m none short =
-    let split : bytes ≡ take at bytes ++ word ++ 10 ∷ drop end bytes
-    = sym (take-append-drop at bytes) ∙ ap (λ (x : List ℕ). take at bytes ++ x) first.split ∙ sym (append_assoc (take at bytes) word (10 ∷ drop end bytes)) in (
-      line (take at bytes) word (drop end bytes) (record {
-        split = split;
-        lines = made_lines (take at bytes) d m;
-        unbroken = first.unbroken;
-        good = good (take at bytes) d m;
-        wrong = wrong (take at bytes) word d m first.unbroken none;
-      }) (front_len at bytes within),
-      short,
-    )
+wrong_fault bytes word at end d within first m none short = (wrong_break bytes word at end d within first m none, short)
 
 no_line : (x y : List ℕ) → IsLine (x ++ 10 ∷ y) → ⊥
 no_line x y h = all_at (λ b. b ≢ 10) x y 10 h refl
@@ -95,29 +98,31 @@ unfinished bytes word d m h some a = let g = m.only word a.0 a.1 in not_lines wo
 some_left : (bytes : List ℕ) (at : ℕ) → at < length bytes → drop at bytes ≢ []
 some_left bytes at less e = let n : length (drop at bytes) ≡ 0 = ap (λ (x : List ℕ). length x) e in omega (arith, n, length-drop at bytes)
 
+pub unfinished_break : (bytes : List ℕ) (at : ℕ) (d : Draft) → at < length bytes → IsLine (drop at bytes) → Makes (take at bytes) d → Begins (IsNext d) (drop at bytes) → BreaksAt bytes (length bytes)
+unfinished_break bytes at d less unbroken m can =
+    let whole = take-append-drop at bytes in
+    cut (record {
+      good = subst (λ (x : List ℕ). CanGoOn x) whole (goes_on (take at bytes) (drop at bytes) d m can);
+      short = subst (λ (x : List ℕ). ¬ IsAccepted x) whole (unfinished (take at bytes) (drop at bytes) d m unbroken (some_left bytes at less));
+    }) refl
+
 pub unfinished_fault : (bytes : List ℕ) (at : ℕ) (d : Draft) → at < length bytes → IsLine (drop at bytes) → Makes (take at bytes) d → Begins (IsNext d) (drop at bytes) → length bytes ≤ MOST_TEXT → IsFault bytes (Bad (length bytes) Line)
-unfinished_fault bytes at d less unbroken m can short =
-    let whole = take-append-drop at bytes in (
-      cut (record {
-        good = subst (λ (x : List ℕ). CanGoOn x) whole (goes_on (take at bytes) (drop at bytes) d m can);
-        short = subst (λ (x : List ℕ). ¬ IsAccepted x) whole (unfinished (take at bytes) (drop at bytes) d m unbroken (some_left bytes at less));
-      }) refl,
-      short,
-    )
+unfinished_fault bytes at d less unbroken m can short = (unfinished_break bytes at d less unbroken m can, short)
+
+pub wrong_end_break : (bytes : List ℕ) (at : ℕ) (d : Draft) → at < length bytes → IsLine (drop at bytes) → Makes (take at bytes) d → ¬ Begins (IsNext d) (drop at bytes) → BreaksAt bytes at
+wrong_end_break bytes at d less unbroken m none =
+    let whole = take-append-drop at bytes in
+    last_line (take at bytes) (drop at bytes) (record {
+      split = sym whole;
+      lines = made_lines (take at bytes) d m;
+      unbroken = unbroken;
+      some = some_left bytes at less;
+      good = good (take at bytes) d m;
+      wrong = subst (λ (x : List ℕ). ¬ CanGoOn x) whole (wrong_end (take at bytes) (drop at bytes) d m unbroken (some_left bytes at less) none);
+    }) (front_len at bytes (omega (arith, less)))
 
 pub wrong_end_fault : (bytes : List ℕ) (at : ℕ) (d : Draft) → at < length bytes → IsLine (drop at bytes) → Makes (take at bytes) d → ¬ Begins (IsNext d) (drop at bytes) → length bytes ≤ MOST_TEXT → IsFault bytes (Bad at Line)
-wrong_end_fault bytes at d less unbroken m none short =
-    let whole = take-append-drop at bytes in (
-      last_line (take at bytes) (drop at bytes) (record {
-        split = sym whole;
-        lines = made_lines (take at bytes) d m;
-        unbroken = unbroken;
-        some = some_left bytes at less;
-        good = good (take at bytes) d m;
-        wrong = subst (λ (x : List ℕ). ¬ CanGoOn x) whole (wrong_end (take at bytes) (drop at bytes) d m unbroken (some_left bytes at less) none);
-      }) (front_len at bytes (omega (arith, less))),
-      short,
-    )
+wrong_end_fault bytes at d less unbroken m none short = (wrong_end_break bytes at d less unbroken m none, short)
 
 -- ---- the answer
 

@@ -323,7 +323,7 @@ command_of c (says.Wire w) h k e = absurd (no_command (codes "wire " ++ wire_bod
 command_of c (says.Commands n) h k e = absurd (no_command (codes "commands " ++ decimal n) c refl (sym e))
 command_of c (says.Turns ts) h k e = absurd (no_command (codes "turns " ++ list_text decimal ts) c refl (sym e))
 
-statement_tells : Tells statement_text Fits
+pub statement_tells : Tells statement_text Fits
 statement_tells says.Name t h k e = sym (only_name t e)
 statement_tells (says.Clock n) t h k e = let o = only_clock t (decimal n) k e in ap (λ x. says.Clock x) (decimal_tells n o.0 h o.2 o.3) ∙ sym o.1
 statement_tells (says.Peer p) t h k e = let o = only_peer t (peer_body p) k (sym (peer_split p) ∙ e) in ap (λ x. says.Peer x) (peer_tells p o.0 h o.2 o.3) ∙ sym o.1

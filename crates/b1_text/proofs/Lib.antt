@@ -19,3 +19,5 @@ pub mod SpecLines
 pub mod NextLines
 pub mod Injective
 pub mod Breaks
+mod Short
+mod Somewhere

@@ -12,7 +12,7 @@ mod lines;
 mod printing;
 mod statement;
 
-ghost use Rattle.std.specs.Prelude.{◌≡◌, ◌≤◌, ℕ, List, Ok, IfOk, IfErr, length};
+ghost use Rattle.std.specs.Prelude.{◌≡◌, ◌<◌, ℕ, List, Ok, IfOk, IfErr, length};
 ghost use Rattle.b1_records.specs.Reading.{Gives};
 ghost use Rattle.b1_script.specs.declared.script.Script.{Script};
 ghost use Rattle.b1_script.specs.Spelling.{HasSpelling};
@@ -43,8 +43,7 @@ pub fn assemble(alloc: Global, bytes: &[u8]) -> Result<Script, NotRead>
     // The bytes are the text of what is read, which a script file can say.
     ensures found { IfOk result (λ s. IsText bytes.now s) }
     // The script whose text they are is read, unless memory runs out.
-    ensures only { (s : Script) → length bytes.now ≤ MOST_TEXT → IsText bytes.now s
-        → Gives (λ x. x) result (Ok s) }
+    ensures only { (s : Script) → IsText bytes.now s → Gives (λ x. x) result (Ok s) }
     // A fault is that the text is too long, or where it breaks.
     ensures bad { IfErr result (λ why. IsFault bytes.now why) }
 {
@@ -63,13 +62,14 @@ pub fn a_text_tells_its_script()
     ensures one_script { (text : List ℕ) (s t : Script) → IsText text s → IsText text t → s ≡ t }
     // A script has one text.
     ensures one_text { (a b : List ℕ) (s : Script) → IsText a s → IsText b s → a ≡ b }
+    // It is shorter than the most that is read.
+    ensures short { (text : List ℕ) (s : Script) → IsText text s → length text < MOST_TEXT }
 {}
 
-/// A text breaks in one place at most, and an accepted text nowhere.
+/// A text that isn't accepted breaks in one place, and an accepted text nowhere.
 pub fn a_text_breaks_in_one_place()
     ensures one { (text : List ℕ) (at end : ℕ) → BreaksAt text at → BreaksAt text end → at ≡ end }
     ensures none { (text : List ℕ) (at : ℕ) → IsAccepted text → ¬ BreaksAt text at }
+    // It can't be that a text isn't accepted, and breaks nowhere.
+    ensures some { (text : List ℕ) → ¬ IsAccepted text → ((at : ℕ) → ¬ BreaksAt text at) → ⊥ }
 {}
-
-#[cfg(test)]
-mod tests;

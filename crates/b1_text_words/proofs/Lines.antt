@@ -4,19 +4,17 @@ use Rattle.std.specs.Prelude.{codes, decimal}
 use Rattle.std.specs.List.{AllByRecursion, flat_map, list_all}
 use Rattle.std.proofs.lemmas.Bool.{cases_eq, cases_lt}
 use Rattle.std.proofs.lemmas.Bool.Decides.{nat_tests}
-use Rattle.b1_model.specs.declared.naming.Key.{Key}
 use Rattle.b1_text_words.specs.declared.items.Item.{Item}
 use Rattle.b1_text_words.specs.declared.items.Item.TheVariants.{UpTo, Among, Known, Handle, Offset}
 use Rattle.std.proofs.Math.Nat.{zero-mod}
 use Rattle.b1_text_words.specs.declared.kinds.Kind.{Kind}
 use Rattle.b1_text_words.specs.declared.kinds.Kind.TheVariants as kinds
-use Rattle.b1_text_words.specs.Items.{item_text, IsItem, IsBounded, IsKey}
+use Rattle.b1_text_words.specs.Items.{item_text, IsItem, IsBounded}
 use Rattle.b1_text_words.specs.Lines.{IsWord, IsLine, IsBoundedKind, is_separator, is_free_of, are_free_of}
-use Rattle.b1_text_words.specs.Numbers.{list_text, hex_text, hex_pair, hex_digit, key_text}
+use Rattle.b1_text_words.specs.Numbers.{list_text, hex_text, hex_pair, hex_digit}
 use Rattle.b1_text_words.specs.Words.{Spells, Begins, IsFree}
 use Rattle.b1_text_words.proofs.Alphabets.{IsPlain, plain_item, plain_decimal, all_append, all_like}
 use Rattle.b1_text_words.proofs.Languages.{joined_words, joined_none, first_begins, begins_first, not_free}
-use Rattle.b1_text_words.proofs.Pairs.{three}
 use Rattle.b1_text_words.proofs.References.{free_from}
 
 -- the bytes of words
@@ -49,14 +47,6 @@ lettered_hex : (bytes : List ℕ) → AllByRecursion (λ b. b < 256) bytes → A
 lettered_hex [] all = ((omega arith, λ e. omega (arith, e)), tt)
 lettered_hex (b ∷ bytes) all = lettered_pairs (b ∷ bytes) all
 
-lettered_key : (key : Key) → IsKey key → AllByRecursion IsLettered (key_text key)
-lettered_key key is = subst (AllByRecursion IsLettered) (sym (three 46 (decimal key.stamp) (decimal key.origin) (decimal key.index)))
-    (from_plain (decimal key.stamp ++ 46 ∷ (decimal key.origin ++ 46 ∷ decimal key.index))
-    (all_append IsPlain (decimal key.stamp) (46 ∷ (decimal key.origin ++ 46 ∷ decimal key.index)) (plain_decimal key.stamp is.stamp)
-    (point, all_append IsPlain (decimal key.origin) (46 ∷ decimal key.index) (plain_decimal key.origin (omega (arith, is.origin))) (point, plain_decimal key.index (omega (arith, is.index)))))) where
-      point : IsPlain 46
-      point = (omega arith, λ e. omega (arith, e))
-
 pub free_lettered : (s : ℕ) (word : List ℕ) → is_separator s ≡ true → AllByRecursion IsLettered word → IsFree s word
 free_lettered s word out all = free_from IsLettered s word apart all where
   apart : (b : ℕ) → IsLettered b → b ≢ s
@@ -74,7 +64,6 @@ free_kind s (kinds.Fixed text) bound free word is = free_fixed s word (subst (λ
 free_kind s (kinds.One item) bound free word is = free_lettered s word free (subst (AllByRecursion IsLettered) (sym is.same) (from_plain (item_text item is.value) (plain_item item bound is.value is.is_of)))
 free_kind s (kinds.Several item most) bound free word is = free_lettered s word free (subst (AllByRecursion IsLettered) (sym is.same) (lettered_list item bound is.value is.is_of.items))
 free_kind s (kinds.Bytes most) bound free word is = free_lettered s word free (subst (AllByRecursion IsLettered) (sym is.same) (lettered_hex is.value is.is_of.items))
-free_kind s kinds.Key bound free word is = free_lettered s word free (subst (AllByRecursion IsLettered) (sym is.same) (lettered_key is.value is.is_of))
 
 -- each kind has a word
 
@@ -90,7 +79,6 @@ some_word (kinds.Fixed text) = record { rest = text.now; whole = refl }
 some_word (kinds.One item) = some_item item
 some_word (kinds.Several item most) = record { rest = codes "-"; whole = record { value = []; is_of = record { items = tt; few = omega arith }; same = refl } }
 some_word (kinds.Bytes most) = record { rest = codes "-"; whole = record { value = []; is_of = record { items = tt; few = omega arith }; same = refl } }
-some_word kinds.Key = record { rest = key_text (record { stamp = 0; origin = 0; index = 0 }); whole = record { value = record { stamp = 0; origin = 0; index = 0 }; is_of = record { stamp = omega arith; origin = omega arith; index = omega arith }; same = refl } }
 
 pub some_line : (s : ℕ) (kind : Kind) (kinds : List Kind) → Begins (IsLine s (kind ∷ kinds)) []
 some_line s kind [] = some_word kind

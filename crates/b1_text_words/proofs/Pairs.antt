@@ -2,11 +2,10 @@
 use Rattle.std.proofs.Common.{◌≡◌, ◌≢◌, arith, ℕ, ◌-◌, ◌^◌, ◌<◌, ◌≤◌, List, [], ◌∷◌, ◌++◌, inl, inr, Option, Some, None, refl, sym, ap, subst, ◌∙◌, append_assoc}
 use Rattle.std.specs.Prelude.{decimal}
 use Rattle.std.specs.Int.{IsInRange}
-use Rattle.b1_model.specs.declared.naming.Key.{Key}
 use Rattle.b1_model.specs.declared.naming.Limits.{Limits}
 use Rattle.b1_text_words.specs.Commands.{AreLimits, limits_text}
-use Rattle.b1_text_words.specs.Items.{IsUpTo, IsKey, IsPair, IsNoDigit}
-use Rattle.b1_text_words.specs.Numbers.{key_text, pair_text}
+use Rattle.b1_text_words.specs.Items.{IsUpTo, IsPair, IsNoDigit}
+use Rattle.b1_text_words.specs.Numbers.{pair_text}
 use Rattle.b1_text_words.specs.Words.{Spells, Reads, Begins, IsFree, Joined}
 use Rattle.b1_text_words.proofs.References.{free_from, decimal_bytes}
 use Rattle.b1_text_words.proofs.Languages.{read_found, read_none, joined_begins, joined_none, begins_joined, first_begins, begins_first, joined_first}
@@ -132,21 +131,6 @@ of_small s other = record {
   first_of = λ a b. refl;
   second_of = λ a b. refl;
   same = λ c. refl;
-}
-
-abbrev pub of_key : Pairing {C = Key} 46 decimal (IsUpTo (2 ^ 64 - 1)) (pair_text 46) IsPair key_text IsKey
-of_key = record {
-  first = λ k. k.stamp;
-  second = λ k. (k.origin, k.index);
-  both = λ a b. record { stamp = a; origin = b.0; index = b.1 };
-  free = λ a within. free_digits 46 (2 ^ 64 - 1) a (inl (omega arith)) (omega arith) within;
-  written = λ k. three 46 (decimal k.stamp) (decimal k.origin) (decimal k.index);
-  is_first = λ k is. omega (arith, is.stamp);
-  is_second = λ k is. (is.origin, is.index);
-  is_of = λ a b p q. record { stamp = omega (arith, p); origin = q.0; index = q.1 };
-  first_of = λ a b. refl;
-  second_of = λ a b. refl;
-  same = λ k. refl;
 }
 
 abbrev pub of_limits : Pairing {C = Limits} 32 decimal (IsUpTo (2 ^ 32 - 1)) (pair_text 32) IsPair limits_text AreLimits

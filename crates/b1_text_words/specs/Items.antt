@@ -2,7 +2,6 @@
 use Rattle.std.specs.Prelude.{◌≡◌, ◌≢◌, ◌⊎◌, ℕ, ◌-◌, ◌%◌, ◌^◌, ◌<◌, ◌≤◌, List, ◌∷◌, length}
 use Rattle.std.specs.Fmt.{decimal}
 use Rattle.std.specs.List.{AllByRecursion}
-use Rattle.b1_model.specs.declared.naming.Key.{Key}
 use Rattle.b1_text_words.specs.declared.among.Numbers.{Numbers}
 use Rattle.b1_text_words.specs.declared.items.Form.TheVariants.{Script, Report}
 use Rattle.b1_text_words.specs.declared.items.Item.{Item}
@@ -77,9 +76,3 @@ IsPair pair = (pair.0 < 2 ^ 32) × (pair.1 < 2 ^ 32)
 -- a byte that is no decimal digit
 abbrev pub IsNoDigit : ℕ → Type 0
 IsNoDigit byte = (byte < 48) ⊎ (57 < byte)
-
--- a key whose parts fit their fields
-pub record IsKey (key : Key) : Type 0 where
-  pub stamp : key.stamp < 2 ^ 64
-  pub origin : key.origin < 2 ^ 32
-  pub index : key.index < 2 ^ 32

@@ -3,8 +3,8 @@ use Rattle.std.specs.Prelude.{◌≡◌, ℕ, Bool, not, ◌||◌, ◌==◌, Lis
 use Rattle.std.specs.List.{list_all}
 use Rattle.b1_text_words.specs.declared.kinds.Kind.{Kind}
 use Rattle.b1_text_words.specs.declared.kinds.Kind.TheVariants as kinds
-use Rattle.b1_text_words.specs.Items.{item_text, IsItem, IsBounded, AreItems, AreBytes, IsKey}
-use Rattle.b1_text_words.specs.Numbers.{list_text, hex_text, key_text}
+use Rattle.b1_text_words.specs.Items.{item_text, IsItem, IsBounded, AreItems, AreBytes}
+use Rattle.b1_text_words.specs.Numbers.{list_text, hex_text}
 use Rattle.b1_text_words.specs.Words.{Spells, Joined}
 
 -- the words of a kind
@@ -13,7 +13,6 @@ IsWord (kinds.Fixed text) word = word ≡ text.now
 IsWord (kinds.One item) word = Spells (item_text item) (IsItem item) word
 IsWord (kinds.Several item most) word = Spells (list_text (item_text item)) (AreItems item most) word
 IsWord (kinds.Bytes most) word = Spells hex_text (AreBytes most) word
-IsWord kinds.Key word = Spells key_text IsKey word
 
 -- one word of each kind, with a separator between them
 abbrev pub IsLine : ℕ → List Kind → List ℕ → Type 0
@@ -37,7 +36,6 @@ is_free_of separator (kinds.Fixed text) = list_all (λ b. not (b == separator)) 
 is_free_of separator (kinds.One item) = is_separator separator
 is_free_of separator (kinds.Several item most) = is_separator separator
 is_free_of separator (kinds.Bytes most) = is_separator separator
-is_free_of separator kinds.Key = is_separator separator
 
 abbrev pub are_free_of : ℕ → List Kind → Bool
 are_free_of separator kinds = list_all (is_free_of separator) kinds

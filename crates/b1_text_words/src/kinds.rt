@@ -4,7 +4,6 @@ ghost use Rattle.b1_text_words.specs.Words.{Begins};
 
 use crate::bytes::{begins_bytes, fits_bytes};
 use crate::items::{Item, begins_item, fits_item, is_bounded};
-use crate::keys::{begins_key, fits_key};
 use crate::lists::{begins_list, fits_list};
 use crate::splitting::{begins_text, is_text, split};
 
@@ -19,12 +18,10 @@ pub enum Kind<'a> {
     Several(Item, u64),
     /// Bytes as pairs of digits, and how many they are at most.
     Bytes(u64),
-    /// A key.
-    Key,
 }
 
 /// Whether the word is of this kind.
-pub fn fits_word(kind: &Kind<'_>, word: &[u8]) -> bool
+fn fits_word(kind: &Kind<'_>, word: &[u8]) -> bool
     ensures { IsTrue result ↔ IsWord kind.now word.now }
 {
     match kind {
@@ -32,12 +29,11 @@ pub fn fits_word(kind: &Kind<'_>, word: &[u8]) -> bool
         Kind::One(item) => fits_item(*item, word),
         Kind::Several(item, most) => fits_list(*item, *most, word),
         Kind::Bytes(most) => fits_bytes(*most, word),
-        Kind::Key => fits_key(word),
     }
 }
 
 /// Whether a word of this kind begins with these bytes.
-pub fn begins_word(kind: &Kind<'_>, word: &[u8]) -> bool
+fn begins_word(kind: &Kind<'_>, word: &[u8]) -> bool
     ensures { IsTrue result ↔ Begins (IsWord kind.now) word.now }
 {
     match kind {
@@ -45,7 +41,6 @@ pub fn begins_word(kind: &Kind<'_>, word: &[u8]) -> bool
         Kind::One(item) => begins_item(*item, word),
         Kind::Several(item, most) => begins_list(*item, *most, word),
         Kind::Bytes(most) => begins_bytes(*most, word),
-        Kind::Key => begins_key(word),
     }
 }
 
@@ -60,26 +55,7 @@ fn is_bounded_kind(kind: &Kind<'_>)
     }
 }
 
-/// Whether the line has one word of each kind, with a separator between them.
-pub fn fits_line(separator: u8, kinds: &[Kind<'_>], line: &[u8]) -> bool
-    requires { IsTrue (are_free_of separator kinds.now) }
-    ensures { IsTrue result ↔ IsLine separator kinds.now line.now }
-{
-    let mut rest = line;
-    for (at, kind) in kinds.iter().enumerate() {
-        is_bounded_kind(kind);
-        let Some((word, others)) = split(rest, separator) else {
-            return at + 1 == kinds.len() && fits_word(kind, rest);
-        };
-        if !fits_word(kind, word) {
-            return false;
-        }
-        rest = others;
-    }
-    false
-}
-
-/// Whether such a line begins with these bytes.
+/// Whether a line of one word of each kind, with a separator between them, begins with these bytes.
 pub fn begins_line(separator: u8, kinds: &[Kind<'_>], line: &[u8]) -> bool
     requires { IsTrue (are_free_of separator kinds.now) }
     ensures { IsTrue result ↔ Begins (IsLine separator kinds.now) line.now }

@@ -15,14 +15,10 @@ mod splitting;
 mod writing;
 
 pub use among::Numbers;
-pub use bytes::{begins_bytes, fits_bytes, read_bytes};
+pub use bytes::{begins_bytes, read_bytes};
 pub use commands::{begins_command, read_command};
-pub use items::{Form, Item, begins_item, fits_item, read_item};
-pub use keys::{begins_key, fits_key, read_key};
-pub use kinds::{Kind, begins_line, begins_word, fits_line, fits_word};
-pub use lists::{begins_list, fits_list, read_list};
+pub use items::{Form, Item, begins_item, read_item};
+pub use kinds::{Kind, begins_line};
+pub use lists::{begins_list, read_list};
 pub use splitting::{begins_text, is_text, split};
 pub use writing::{write_bytes, write_command, write_item, write_list};
-
-#[cfg(test)]
-mod tests;

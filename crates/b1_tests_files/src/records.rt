@@ -1,6 +1,6 @@
-use super::*;
 use b1_errs::{Cause, NotRead};
 use b1_model::{Bytes, Command, Limits, Nums, SendCmd};
+use b1_records::{decode, encode};
 use std::test::Fail;
 
 /// A SEND of `hi` to the number 2.

@@ -1,5 +1,8 @@
-use super::*;
 use b1_model::Command;
+use b1_report_lines::{Stop, Unread, read_answer};
+use b1_text_words::{
+    Form, Item, begins_command, begins_item, read_bytes, read_command, read_item, read_list,
+};
 use std::test::Fail;
 
 #[test]
@@ -42,4 +45,11 @@ fn a_release(rt: HostRuntime) -> Result<(), Fail> {
 fn a_cut_line(rt: HostRuntime) {
     assert_eq!(rt; begins_command(Form::Script, b"send 1 to 2,"), true);
     assert_eq!(rt; begins_command(Form::Report, b"aw"), false);
+}
+
+#[test]
+fn a_cut_answer(rt: HostRuntime) -> Result<(), Fail> {
+    let read = read_answer(rt.alloc(), &Command::Recv, b"refused EAGAIN:sta");
+    assert!(rt; matches!(&read, Err(Unread::Stopped(Stop::Cut))));
+    Ok(())
 }

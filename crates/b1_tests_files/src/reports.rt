@@ -1,6 +1,7 @@
-use super::*;
 use b1_errs::{Cause, NotRead};
-use b1_model::{Answer, Command, Quantity, Reason, Refused};
+use b1_model::{Answer, Call, Command, Quantity, Reason, Refused};
+use b1_report::{parse, print, print_call};
+use std::alloc::{AllocError, Global};
 use std::test::Fail;
 
 #[test]

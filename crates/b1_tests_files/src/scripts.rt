@@ -1,5 +1,8 @@
-use super::*;
-use b1_script::{read_whole, write};
+use b1_errs::{Cause, NotRead};
+use b1_model::{Calls, Command};
+use b1_script::{read, read_whole, resolve, write};
+use b1_text::{assemble, print_script};
+use std::alloc::Global;
 use std::test::Fail;
 
 /// Two peers, a wire from peer 1 to peer 0, a SEND of `hi` by peer 0 and a RECV by peer 1.
@@ -86,5 +89,51 @@ fn greatest_operands(rt: HostRuntime) -> Result<(), Fail> {
     let script = assemble(rt.alloc(), text.as_bytes())?;
     let back = print_script(rt.alloc(), &script)?;
     assert_eq!(rt; back.as_slice(), text.as_bytes());
+    Ok(())
+}
+
+// A script that is cut off is no script, and a text that is cut off breaks at its end.
+#[test]
+fn cut_scripts_and_texts(rt: HostRuntime) -> Result<(), Fail> {
+    for len in 0..ONE_MESSAGE.len() {
+        let script = read_whole(rt.alloc(), &ONE_MESSAGE[..len]);
+        let short = matches!(
+            &script,
+            Err(NotRead::Bad {
+                cause: Cause::Short,
+                ..
+            })
+        );
+        assert!(rt; short);
+    }
+    let text = TEXT.as_bytes();
+    for len in 0..text.len() {
+        let script = assemble(rt.alloc(), &text[..len]);
+        let cut = script.err()
+            == Some(NotRead::Bad {
+                at: len,
+                cause: Cause::Line,
+            });
+        assert!(rt; cut);
+    }
+    Ok(())
+}
+
+#[test]
+fn one_message_at_the_front(rt: HostRuntime) -> Result<(), Fail> {
+    let (_, end) = read(rt.alloc(), &ONE_MESSAGE)?;
+    assert_eq!(rt; end, 168);
+    Ok(())
+}
+
+#[test]
+fn a_reference_without_receipt(rt: HostRuntime) -> Result<(), Fail> {
+    let alloc = rt.alloc();
+    let resolved = resolve(
+        alloc,
+        &Command::SliceRelease { offset: 1 },
+        &Calls::new(alloc),
+    )?;
+    assert!(rt; matches!(&resolved, Command::SliceRelease { offset: u64::MAX }));
     Ok(())
 }
