@@ -1,5 +1,5 @@
 -- What RECV removes for nobody, one entry after another.
-use Rattle.std.proofs.Common.{◌≡◌, refl, sym, ap, ◌∙◌, inl, inr, subst, ℕ, suc, ◌+◌, Bool, true, false, cond, not, ◌&&◌, List, [], ◌∷◌, fold, take, drop, take_while, length, Option, Some, None, ◌==◌}
+use Rattle.std.proofs.Common.{◌≡◌, refl, sym, ap, ◌∙◌, ℕ, suc, ◌+◌, Bool, true, false, cond, not, ◌&&◌, List, [], ◌∷◌, fold, take, drop, take_while, length, ◌==◌}
 use Rattle.std.specs.List.{prefix_len}
 use native.Mathlib.Omega.{arith}
 use Rattle.b1_model.specs.declared.naming.Key.{Key}
@@ -7,7 +7,7 @@ use Rattle.b1_model.specs.declared.naming.NodeRef.{NodeRef}
 use Rattle.b1_model.specs.declared.entries.Entry.{Entry}
 use Rattle.b1_model.specs.declared.entries.Entry.TheVariants.{Message, OwnNotice, ForeignNotice, ReleaseNotice}
 use Rattle.b1_model.specs.MachineParts.{PeerPart, HandleRecord, is_staged, node_at, record_or_none}
-use Rattle.b1_model.specs.MachineTables.{changed, changed_or_made, less_flight, made_dead, unexpected, foreign}
+use Rattle.b1_model.specs.MachineTables.{changed, less_flight, made_dead, unexpected, foreign}
 use Rattle.b1_model.specs.MachineReceive.{is_for_nobody, discards, discarded, cleared, front_taken, received, received_part}
 use Rattle.b1_step.specs.Ordered.{Rising}
 use Rattle.b1_step.proofs.Lookups.{rising_changed}

@@ -1,25 +1,22 @@
 -- What is always so of a part stays where a message or notices are committed, and where a notice comes in or leaves.
-use Rattle.std.proofs.Common.{◌≡◌, ◌≢◌, ◌⊎◌, refl, sym, ap, ◌∙◌, inl, inr, subst, ℕ, ◌+◌, ◌-◌, ◌≤◌, ◌<◌, ◌%◌, Bool, true, false, cond, not, ◌&&◌, List, [], ◌∷◌, filter, find, map, sum_by, length, get_or, Option, Some, None, ◌==◌}
-use Rattle.std.proofs.lemmas.Bool.{eqb-true, eq-eqb}
+use Rattle.std.proofs.Common.{◌≡◌, ◌⊎◌, refl, sym, ap, ◌∙◌, inl, inr, subst, ℕ, ◌+◌, ◌≤◌, Bool, true, false, cond, not, ◌&&◌, List, filter, map, length, Some, None, ◌==◌}
 use native.Mathlib.Omega.{arith}
 use Rattle.b1_model.specs.declared.naming.Key.{Key}
 use Rattle.b1_model.specs.declared.naming.NodeRef.{NodeRef}
 use Rattle.b1_model.specs.declared.parts.Slot.{Slot}
 use Rattle.b1_model.specs.declared.entries.Entry.{Entry}
 use Rattle.b1_model.specs.declared.entries.Entry.TheVariants.{Message, OwnNotice, ForeignNotice, ReleaseNotice}
-use Rattle.b1_model.specs.MachineParts.{NodePart, HandleRecord, Slice, is_data, is_staged, is_odd, is_live, no_node, carried, same_ref, record_of, record_or_none, is_release_notice}
-use Rattle.b1_model.specs.MachineTables.{put, put_all, without, is_stage, is_staged_notice, is_unheld, is_needed, changed, made_dead, noticed as with_notice}
+use Rattle.b1_model.specs.MachineParts.{NodePart, HandleRecord, Slice, is_data, is_staged, is_odd, carried, same_ref, record_of, record_or_none}
+use Rattle.b1_model.specs.MachineTables.{put, put_all, without, is_stage, is_staged_notice, changed, made_dead, noticed as with_notice}
 use Rattle.b1_model.specs.MachineSend.{with_slots, with_stamp}
-use Rattle.b1_step.specs.Rights.{Has}
-use Rattle.b1_step.specs.Ordered.{Rising}
 use Rattle.b1_step.proofs.Orders.{same_ref_itself}
 use Rattle.b1_step.proofs.Queues.{sum_put, without_has}
 use Rattle.b1_step.proofs.Lookups.{rising_changed, own_changed, kept_by}
 use Rattle.b1_inv_peer.specs.Needs.{AreSlots}
-use Rattle.b1_inv_peer.specs.PeerOk.{count, is_message, begins_at, times, flight_in, is_notice_for, is_notice_of, MessageOk, NoticeOk, SliceOk, AreOk}
+use Rattle.b1_inv_peer.specs.PeerOk.{count, begins_at, times, is_notice_for, is_notice_of, MessageOk, NoticeOk, SliceOk, AreOk}
 use Rattle.b1_inv_peer.specs.Changes.{Removes}
-use Rattle.b1_inv_peer.proofs.Counts.{one, count_put, none_count, count_without_le, count_without_other, sum_without_other, sum_moved}
-use Rattle.b1_inv_peer.proofs.RecordFields.{flight_of, field_stays, same_or_apart, other_record, unneeded_flight, or_none}
+use Rattle.b1_inv_peer.proofs.Counts.{one, count_put, count_without_le, sum_without_other, sum_moved}
+use Rattle.b1_inv_peer.proofs.RecordFields.{field_stays, same_or_apart, other_record, unneeded_flight, or_none}
 use Rattle.b1_inv_peer.proofs.RecordLists.{needed_changed, notice_needs}
 use Rattle.b1_inv_peer.proofs.Entries.{all_put, all_moved, message_committed, notice_committed, slice_committed, begins_committed, carried_committed, notice_for_committed, notice_moved, slice_moved, message_none, slice_none, carries_none}
 

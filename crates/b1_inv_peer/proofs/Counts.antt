@@ -1,5 +1,5 @@
 -- How many entries of a queue pass a test, and sums over a queue, where entries come in and leave.
-use Rattle.std.proofs.Common.{◌≡◌, ◌⊎◌, refl, sym, ap, ◌∙◌, inl, inr, ℕ, ◌+◌, ◌≤◌, ◌<◌, Bool, true, false, cond, not, List, [], ◌∷◌, filter, find, map, sum_by, Option, Some, None}
+use Rattle.std.proofs.Common.{◌≡◌, refl, ap, ◌∙◌, inl, inr, ℕ, ◌+◌, ◌≤◌, Bool, true, false, cond, not, List, [], ◌∷◌, filter, find, map, sum_by, Some, None}
 use Rattle.std.proofs.lemmas.List.Sums.{sum_by-cons}
 use native.Mathlib.Omega.{arith}
 use Rattle.b1_model.specs.declared.naming.Key.{Key}

@@ -1,12 +1,11 @@
 -- What the notices of a destruction need of a queue, one doomed node after another.
-use Rattle.std.proofs.Common.{◌≡◌, ◌≢◌, refl, sym, ap, ◌∙◌, inl, inr, subst, ℕ, ◌+◌, ◌<◌, ◌≤◌, Bool, true, false, cond, not, List, [], ◌∷◌, length, Option, Some, None, ◌==◌}
-use Rattle.std.proofs.lemmas.Bool.{eqb-true, eq-eqb}
-use native.Mathlib.Omega.{arith}
+use Rattle.std.proofs.Common.{◌≡◌, ◌≢◌, refl, sym, ap, ◌∙◌, subst, ℕ, Bool, true, false, cond, not, List, [], ◌∷◌, Option, Some, None, ◌==◌}
+use Rattle.std.proofs.lemmas.Bool.{eqb-true}
 use Rattle.b1_model.specs.declared.naming.Key.{Key}
 use Rattle.b1_model.specs.declared.entries.Entry.{Entry}
 use Rattle.b1_model.specs.declared.entries.Entry.TheVariants.{Message, OwnNotice, ForeignNotice, ReleaseNotice}
 use Rattle.b1_model.specs.declared.naming.NodeRef.{NodeRef}
-use Rattle.b1_model.specs.MachineParts.{NodePart, HandleRecord, is_live, no_node, same_ref, record_of, key_before, is_release_notice}
+use Rattle.b1_model.specs.MachineParts.{NodePart, HandleRecord, is_live, same_ref, record_of, key_before, is_release_notice}
 use Rattle.b1_model.specs.MachineTables.{is_needed, put, without, changed, noticed}
 use Rattle.b1_step.specs.Rights.{Has}
 use Rattle.b1_step.specs.Ordered.{NewKey}

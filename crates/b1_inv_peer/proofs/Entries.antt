@@ -1,5 +1,5 @@
 -- One entry of a queue: what it keeps where nodes, slices or its key change.
-use Rattle.std.proofs.Common.{◌≡◌, ◌≢◌, ◌⊎◌, refl, sym, ap, ◌∙◌, inl, inr, subst, ℕ, ◌+◌, ◌-◌, ◌≤◌, ◌<◌, Bool, true, false, cond, not, ◌&&◌, List, [], ◌∷◌, filter, find, map, sum_by, length, get_or, Option, Some, None, ◌==◌}
+use Rattle.std.proofs.Common.{◌≡◌, ◌⊎◌, refl, sym, ◌∙◌, inl, inr, subst, ℕ, ◌≤◌, ◌<◌, Bool, true, false, List, [], ◌∷◌, filter, map, length, get_or, Some, ◌==◌}
 use Rattle.std.proofs.lemmas.Bool.{eqb-true, eq-eqb}
 use native.Mathlib.Omega.{arith}
 use Rattle.b1_model.specs.declared.naming.Key.{Key}
@@ -9,17 +9,16 @@ use Rattle.b1_model.specs.declared.parts.Slot.TheVariants as slot
 use Rattle.b1_model.specs.declared.entries.Entry.{Entry}
 use Rattle.b1_model.specs.declared.entries.Entry.TheVariants.{Message, OwnNotice, ForeignNotice, ReleaseNotice}
 use Rattle.b1_model.specs.declared.tables.Usage.TheVariants.{Unpublished}
-use Rattle.b1_model.specs.MachineParts.{NodePart, Slice, is_data, is_staged, is_live, no_node, carried, same_ref}
+use Rattle.b1_model.specs.MachineParts.{NodePart, Slice, is_data, is_live, no_node, carried}
 use Rattle.b1_model.specs.MachinePool.{slice_at, slice_len}
-use Rattle.b1_model.specs.MachineTables.{put, put_all, without, is_unheld, is_stage}
-use Rattle.b1_model.specs.MachineSend.{with_slots, with_stamp, offset_of}
+use Rattle.b1_model.specs.MachineTables.{put, put_all, without, is_unheld}
+use Rattle.b1_model.specs.MachineSend.{with_slots, with_stamp}
 use Rattle.b1_step.specs.Rights.{Has}
 use Rattle.b1_step.proofs.Queues.{put_has, put_all_has, without_has}
 use Rattle.b1_step.proofs.Lists.{has_map, filter_has}
 use Rattle.b1_inv_peer.specs.Needs.{IsSlot, AreSlots}
-use Rattle.b1_inv_peer.specs.PeerOk.{count, is_message, begins_at, times, is_notice_for, is_notice_of, IsMessage, MessageOk, NoticeOk, SliceOk}
-use Rattle.b1_inv_peer.specs.Changes.{KeepsOthers, Takes, Removes}
-use Rattle.b1_inv_peer.proofs.Counts.{one}
+use Rattle.b1_inv_peer.specs.PeerOk.{begins_at, times, is_notice_for, is_notice_of, MessageOk, NoticeOk, SliceOk}
+use Rattle.b1_inv_peer.specs.Changes.{KeepsOthers, Takes}
 
 abbrev Queue : Type 0
 Queue = List (Key × Entry)

@@ -1,15 +1,12 @@
 -- Handle records once an entry that carries nodes leaves, or its slots arrive.
-use Rattle.std.proofs.Common.{◌≡◌, ◌≢◌, ◌⊎◌, refl, sym, ap, ◌∙◌, inl, inr, subst, ℕ, ◌+◌, ◌-◌, ◌≤◌, ◌<◌, Bool, true, false, cond, not, List, [], ◌∷◌, ◌++◌, fold, zip, length, Option, Some, None, ◌==◌, unwrap_or}
-use Rattle.std.proofs.lemmas.Bool.{eqb-true, eq-eqb}
+use Rattle.std.proofs.Common.{◌≡◌, ◌≢◌, ◌⊎◌, refl, sym, ap, ◌∙◌, inl, inr, subst, ℕ, ◌+◌, ◌-◌, Bool, true, false, List, [], ◌∷◌, fold, zip}
 use native.Mathlib.Omega.{arith}
 use Rattle.b1_model.specs.declared.naming.NodeRef.{NodeRef}
 use Rattle.b1_model.specs.declared.parts.Slot.{Slot}
 use Rattle.b1_model.specs.declared.parts.Slot.TheVariants as slot
-use Rattle.b1_model.specs.Names.{invalid}
-use Rattle.b1_model.specs.MachineParts.{PeerPart, HandleRecord, same_ref, record_or_none, node_at}
-use Rattle.b1_model.specs.MachineTables.{is_needed, changed, less_flight, more_held, next_number, expected, unexpected, foreign}
-use Rattle.b1_model.specs.MachineReceive.{Arriving, reference_by, reference_arrives, slot_arrives, slots_arrived}
-use Rattle.b1_step.specs.Rights.{Has}
+use Rattle.b1_model.specs.MachineParts.{HandleRecord, same_ref, record_or_none}
+use Rattle.b1_model.specs.MachineTables.{changed, less_flight, more_held, next_number, unexpected, foreign}
+use Rattle.b1_model.specs.MachineReceive.{Arriving, reference_by, slot_arrives}
 use Rattle.b1_step.specs.Ordered.{Rising}
 use Rattle.b1_step.proofs.Orders.{same_ref_itself}
 use Rattle.b1_step.proofs.Lookups.{rising_changed}

@@ -1,14 +1,12 @@
 -- What is always so of a part whose queue and records are given up, and the room that it needs.
-use Rattle.std.proofs.Common.{◌≡◌, ◌≢◌, refl, sym, ap, ◌∙◌, inl, inr, ℕ, zero, suc, ◌+◌, ◌≤◌, Bool, true, false, cond, List, [], ◌∷◌, length, ◌==◌}
-use Rattle.std.proofs.lemmas.Bool.{eqb-true, eq-eqb}
+use Rattle.std.proofs.Common.{◌≡◌, ◌≢◌, refl, sym, ap, ℕ, ◌+◌, ◌≤◌, Bool, true, false, List, [], ◌∷◌, length, ◌==◌}
+use Rattle.std.proofs.lemmas.Bool.{eqb-true}
 use native.Mathlib.Omega.{arith}
 use Rattle.b1_model.specs.declared.naming.Key.{Key}
-use Rattle.b1_model.specs.declared.naming.NodeRef.{NodeRef}
 use Rattle.b1_model.specs.declared.entries.Entry.{Entry}
 use Rattle.b1_model.specs.declared.entries.Entry.TheVariants.{Message, OwnNotice, ForeignNotice, ReleaseNotice}
 use Rattle.b1_model.specs.MachineParts.{NodePart, HandleRecord, Slice}
-use Rattle.b1_step.specs.Rights.{Has}
-use Rattle.b1_inv_peer.specs.PeerOk.{count, is_notice_of, is_message, places, unnoticed, AreOk, IsRoom}
+use Rattle.b1_inv_peer.specs.PeerOk.{count, is_notice_of, places, AreOk, IsRoom}
 use Rattle.b1_inv_peer.proofs.Counts.{one, count_cons}
 use Rattle.b1_inv_peer.proofs.Places.{places_le, places_one_more}
 

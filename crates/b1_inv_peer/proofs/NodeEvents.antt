@@ -1,24 +1,19 @@
 -- What is always so of a part stays where nodes are made, counted, dropped, doomed and destroyed.
-use Rattle.std.proofs.Common.{◌≡◌, ◌≢◌, ◌⊎◌, refl, sym, ap, ◌∙◌, inl, inr, subst, ℕ, zero, suc, ◌+◌, ◌-◌, ◌≤◌, ◌<◌, Bool, true, false, cond, not, ◌&&◌, List, [], ◌∷◌, ◌++◌, filter, find, map, fold, set, replicate, length, get_or, Option, Some, None, ◌==◌}
+use Rattle.std.proofs.Common.{◌≡◌, ◌≢◌, refl, sym, ap, ◌∙◌, inl, inr, subst, ℕ, zero, suc, ◌+◌, ◌≤◌, ◌<◌, Bool, true, false, not, ◌&&◌, List, [], ◌∷◌, ◌++◌, fold, set, replicate, length, get_or, Option, Some, None, ◌==◌}
 use Rattle.std.specs.List.{list_all}
 use Rattle.std.proofs.lemmas.Bool.{eqb-true, eq-eqb}
 use Rattle.std.proofs.lemmas.List.{get_or-set_same, get_or-set_other, get_or_append_left, length-set}
-use Rattle.std.proofs.lemmas.List.Folds.{list_all_at}
 use native.Mathlib.Omega.{arith}
 use Rattle.b1_model.specs.declared.naming.Key.{Key}
-use Rattle.b1_model.specs.declared.naming.NodeRef.{NodeRef}
-use Rattle.b1_model.specs.declared.parts.NodeState.{NodeState}
 use Rattle.b1_model.specs.declared.parts.NodeState.TheVariants.{Live, Dying, Destroyed}
 use Rattle.b1_model.specs.declared.entries.Entry.{Entry}
 use Rattle.b1_model.specs.declared.entries.Entry.TheVariants.{Message, OwnNotice, ForeignNotice, ReleaseNotice}
 use Rattle.b1_model.specs.MachineParts.{PeerPart, NodePart, HandleRecord, Slice, is_data, is_live, no_node, is_release_notice}
-use Rattle.b1_model.specs.MachineTables.{put, without, is_unheld, count_of, counted, uncounted, in_state, notice_taken, with_node, with_nodes, with_made, serial_of}
+use Rattle.b1_model.specs.MachineTables.{put, without, is_unheld, count_of, uncounted, in_state, with_node, with_nodes, with_made, serial_of}
 use Rattle.b1_model.specs.MachineDestroy.{with_own_notices}
 use Rattle.b1_step.specs.Rights.{Has}
-use Rattle.b1_step.proofs.Queues.{without_has}
 use Rattle.b1_step.proofs.Lists.{filter_has}
-use Rattle.b1_inv_peer.specs.PeerOk.{count, is_notice_for, is_notice_of, MessageOk, NoticeOk, AreOk}
-use Rattle.b1_inv_peer.proofs.Counts.{one}
+use Rattle.b1_inv_peer.specs.PeerOk.{is_notice_of, NoticeOk, AreOk}
 use Rattle.b1_inv_peer.proofs.Entries.{message_more, notice_same}
 use Rattle.b1_inv_peer.proofs.CommitEvents.{notices_leave, notice_put}
 

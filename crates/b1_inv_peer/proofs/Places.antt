@@ -1,13 +1,10 @@
 -- How many nodes have no notice in a queue, where entries come in and leave.
-use Rattle.std.proofs.Common.{◌≡◌, ◌≢◌, ◌⊎◌, refl, sym, ap, ◌∙◌, inl, inr, subst, ℕ, zero, suc, ◌+◌, ◌-◌, ◌≤◌, ◌<◌, Bool, true, false, cond, not, List, [], ◌∷◌, find, ◌==◌}
+use Rattle.std.proofs.Common.{◌≡◌, ◌≢◌, refl, sym, ◌∙◌, subst, ℕ, zero, suc, ◌+◌, ◌≤◌, ◌<◌, Bool, true, false, cond, List, ◌==◌}
 use Rattle.std.proofs.lemmas.Bool.{eqb-true, eq-eqb}
 use native.Mathlib.Omega.{arith}
 use Rattle.b1_model.specs.declared.naming.Key.{Key}
 use Rattle.b1_model.specs.declared.entries.Entry.{Entry}
-use Rattle.b1_model.specs.MachineTables.{put, without}
-use Rattle.b1_step.specs.Rights.{Has}
 use Rattle.b1_inv_peer.specs.PeerOk.{count, is_notice_of, total, place_of, places}
-use Rattle.b1_inv_peer.proofs.Counts.{one, count_cons, count_put, count_without_le, count_without_other, count_without_same}
 
 abbrev Queue : Type 0
 Queue = List (Key × Entry)

@@ -1,31 +1,27 @@
 -- What is always so of a part stays where a message comes in, is committed or leaves, and where notices are committed.
-use Rattle.std.proofs.Common.{◌≡◌, ◌≢◌, ◌⊎◌, refl, sym, ap, ◌∙◌, inl, inr, subst, ℕ, ◌+◌, ◌-◌, ◌≤◌, ◌<◌, ◌%◌, Bool, true, false, cond, not, ◌&&◌, List, [], ◌∷◌, filter, find, map, sum_by, length, get_or, Option, Some, None, ◌==◌}
+use Rattle.std.proofs.Common.{◌≡◌, refl, sym, ap, ◌∙◌, inl, inr, subst, ℕ, ◌+◌, ◌≤◌, ◌<◌, Bool, true, false, cond, ◌&&◌, List, [], ◌∷◌, find, map, length, Some, None, ◌==◌}
 use Rattle.std.proofs.lemmas.Bool.{eqb-true, eq-eqb}
 use Rattle.std.proofs.lemmas.List.Sums.{sum_by-cons}
 use native.Mathlib.Omega.{arith}
 use Rattle.b1_model.specs.declared.limits.TheConstants.{MOST_HANDLES, MOST_PAYLOAD}
 use Rattle.b1_model.specs.declared.naming.Key.{Key}
 use Rattle.b1_model.specs.declared.naming.NodeRef.{NodeRef}
-use Rattle.b1_model.specs.declared.parts.Slot.{Slot}
 use Rattle.b1_model.specs.declared.parts.Slot.TheVariants.{Unattached}
-use Rattle.b1_model.specs.declared.tables.Usage.TheVariants.{Unpublished}
 use Rattle.b1_model.specs.declared.entries.Entry.{Entry}
-use Rattle.b1_model.specs.declared.entries.Entry.TheVariants.{Message, OwnNotice, ForeignNotice, ReleaseNotice}
-use Rattle.b1_model.specs.MachineParts.{PeerPart, NodePart, HandleRecord, Slice, is_data, is_staged, is_odd, carried, same_ref, record_or_none}
-use Rattle.b1_model.specs.MachinePool.{slice_at, slice_len}
-use Rattle.b1_model.specs.MachineTables.{put, put_all, without, is_stage, is_staged_notice, expected, foreign}
-use Rattle.b1_model.specs.MachineSend.{with_slots, with_stamp, offset_of}
+use Rattle.b1_model.specs.declared.entries.Entry.TheVariants.{Message}
+use Rattle.b1_model.specs.MachineParts.{NodePart, HandleRecord, Slice, is_data, is_odd, carried}
+use Rattle.b1_model.specs.MachinePool.{slice_len}
+use Rattle.b1_model.specs.MachineTables.{put, without, is_stage, expected, foreign}
+use Rattle.b1_model.specs.MachineSend.{offset_of}
 use Rattle.b1_step.specs.Rights.{Has}
-use Rattle.b1_step.specs.Ordered.{Rising}
 use Rattle.b1_step.proofs.Orders.{find_has}
-use Rattle.b1_step.proofs.Queues.{sum_put, sum_without, without_has}
-use Rattle.b1_inv_peer.specs.Needs.{IsSlot, AreSlots}
-use Rattle.b1_inv_peer.specs.PeerOk.{count, is_message, begins_at, times, flight_in, is_notice_for, is_notice_of, MessageOk, NoticeOk, SliceOk, AreOk}
+use Rattle.b1_step.proofs.Queues.{sum_put, without_has}
+use Rattle.b1_inv_peer.specs.PeerOk.{count, begins_at, times, is_notice_for, MessageOk, NoticeOk, SliceOk, AreOk}
 use Rattle.b1_inv_peer.specs.Changes.{KeepsOthers, Takes, Removes, LessFlight}
-use Rattle.b1_inv_peer.proofs.Counts.{one, count_cons, count_put, has_count, none_count, count_none, none_found, sum_found, count_without_le, count_without_other, sum_moved}
-use Rattle.b1_inv_peer.proofs.RecordFields.{flight_of, flight_expected, rising_expected, notice_expected, times_foreign}
+use Rattle.b1_inv_peer.proofs.Counts.{one, count_put, none_count, count_none, none_found, sum_found}
+use Rattle.b1_inv_peer.proofs.RecordFields.{flight_expected, rising_expected, notice_expected, times_foreign}
 use Rattle.b1_inv_peer.proofs.RecordLists.{needed_expected}
-use Rattle.b1_inv_peer.proofs.Entries.{all_put, all_moved, message_committed, notice_committed, slice_committed, data_committed, begins_committed, carried_committed, notice_for_committed, notice_moved, slice_moved, message_none, slice_none, carries_none, notice_for_none, notice_any, slice_kept, slice_not_free}
+use Rattle.b1_inv_peer.proofs.Entries.{all_put, slice_kept, slice_not_free}
 
 abbrev Queue : Type 0
 Queue = List (Key × Entry)

@@ -1,15 +1,14 @@
 -- What changes of handle records make of one field of them.
-use Rattle.std.proofs.Common.{◌≡◌, ◌≢◌, ◌⊎◌, refl, sym, ap, ◌∙◌, inl, inr, subst, ℕ, ◌+◌, ◌-◌, ◌≤◌, ◌<◌, Bool, true, false, cond, not, List, [], ◌∷◌, filter, fold, sum_by, length, Option, Some, None, ◌==◌, ◌||◌, nat_lt}
+use Rattle.std.proofs.Common.{◌≡◌, ◌≢◌, ◌⊎◌, refl, sym, ap, ◌∙◌, inl, inr, subst, ℕ, ◌+◌, ◌-◌, Bool, true, false, cond, not, List, [], ◌∷◌, Option, Some, None, ◌==◌, ◌||◌, nat_lt}
 use Rattle.std.proofs.lemmas.List.Sums.{sum_by-cons}
 use native.Mathlib.Omega.{arith}
 use Rattle.b1_model.specs.declared.naming.NodeRef.{NodeRef}
-use Rattle.b1_model.specs.MachineParts.{HandleRecord, same_ref, ref_before, record_of, record_or_none, no_record}
+use Rattle.b1_model.specs.MachineParts.{HandleRecord, same_ref, record_of, record_or_none, no_record}
 use Rattle.b1_model.specs.MachineTables.{is_needed, changed, changed_or_made, more_flight, less_flight, expected, unexpected, foreign}
-use Rattle.b1_step.specs.Rights.{Has}
-use Rattle.b1_step.specs.Ordered.{Rising, BehindNode}
+use Rattle.b1_step.specs.Ordered.{Rising}
 use Rattle.b1_step.proofs.Orders.{same_ref_is, same_ref_itself}
 use Rattle.b1_step.proofs.Lookups.{rising_changed, rising_made, own_changed, own_made, other_changed, other_made, kept_by}
-use Rattle.b1_inv_peer.specs.PeerOk.{times, unnoticed}
+use Rattle.b1_inv_peer.specs.PeerOk.{times}
 use Rattle.b1_inv_peer.proofs.Counts.{one}
 
 abbrev Handles : Type 0

@@ -1,13 +1,12 @@
 -- What changes of handle records leave of the list: every record is needed, how many there are, how many have no notice.
-use Rattle.std.proofs.Common.{◌≡◌, ◌≢◌, ◌⊎◌, refl, sym, ap, ◌∙◌, inl, inr, subst, ℕ, ◌+◌, ◌-◌, ◌≤◌, ◌<◌, Bool, true, false, cond, not, List, [], ◌∷◌, find, sum_by, length, Option, Some, None, ◌==◌, ◌||◌, nat_lt}
+use Rattle.std.proofs.Common.{◌≡◌, refl, ap, ◌∙◌, inl, inr, ℕ, ◌+◌, ◌≤◌, Bool, true, false, cond, not, List, [], ◌∷◌, length, Some, None, ◌||◌, nat_lt}
 use Rattle.std.proofs.lemmas.List.Sums.{sum_by-cons}
 use native.Mathlib.Omega.{arith}
 use Rattle.b1_model.specs.declared.naming.NodeRef.{NodeRef}
-use Rattle.b1_model.specs.MachineParts.{PeerPart, HandleRecord, same_ref, ref_before, record_of, record_or_none, no_record}
+use Rattle.b1_model.specs.MachineParts.{HandleRecord, same_ref, ref_before, record_of, no_record}
 use Rattle.b1_model.specs.MachineTables.{is_needed, changed, changed_or_made, more_flight, less_flight, noticed, expected, unexpected}
 use Rattle.b1_step.specs.Rights.{Has}
 use Rattle.b1_inv_peer.specs.PeerOk.{unnoticed}
-use Rattle.b1_inv_peer.proofs.Counts.{one}
 
 abbrev Handles : Type 0
 Handles = List HandleRecord

@@ -1,6 +1,6 @@
 -- The room that events need, where entries and records come and go.
-use Rattle.std.proofs.Common.{◌≡◌, ◌≢◌, ◌⊎◌, refl, sym, ap, ◌∙◌, inl, inr, subst, ℕ, zero, suc, ◌+◌, ◌-◌, ◌≤◌, ◌<◌, Bool, true, false, cond, not, ◌&&◌, List, [], ◌∷◌, filter, find, map, sum_by, length, Option, Some, None, ◌==◌}
-use Rattle.std.proofs.lemmas.Bool.{eqb-true, eq-eqb}
+use Rattle.std.proofs.Common.{◌≡◌, ◌≢◌, refl, sym, ap, ◌∙◌, ℕ, zero, suc, ◌+◌, ◌-◌, ◌≤◌, ◌<◌, Bool, true, false, cond, not, List, [], ◌∷◌, filter, map, length, Some, None, ◌==◌}
+use Rattle.std.proofs.lemmas.Bool.{eqb-true}
 use Rattle.std.proofs.lemmas.List.Sums.{sum_by-cons}
 use native.Mathlib.Omega.{arith}
 use Rattle.b1_model.specs.declared.naming.Key.{Key}
@@ -8,18 +8,15 @@ use Rattle.b1_model.specs.declared.naming.NodeRef.{NodeRef}
 use Rattle.b1_model.specs.declared.parts.Slot.{Slot}
 use Rattle.b1_model.specs.declared.entries.Entry.{Entry}
 use Rattle.b1_model.specs.declared.entries.Entry.TheVariants.{Message, OwnNotice, ForeignNotice, ReleaseNotice}
-use Rattle.b1_model.specs.MachineParts.{HandleRecord, is_data, carried, record_of, is_release_notice}
+use Rattle.b1_model.specs.MachineParts.{HandleRecord, is_data, record_of, is_release_notice}
 use Rattle.b1_model.specs.MachineTables.{put, put_all, without, is_staged_notice, changed, made_dead, noticed as with_notice, expected}
 use Rattle.b1_model.specs.MachineSend.{with_slots, with_stamp}
-use Rattle.b1_step.specs.Rights.{Has}
-use Rattle.b1_inv_peer.specs.PeerOk.{count, is_message, is_notice_of, total, place_of, places, unnoticed, IsRoom}
+use Rattle.b1_inv_peer.specs.PeerOk.{count, is_message, is_notice_of, places, unnoticed, IsRoom}
 use Rattle.b1_inv_peer.specs.Changes.{Removes, LessFlight}
-use Rattle.b1_inv_peer.proofs.Counts.{one, count_put, none_count, none_found, count_none, count_without_le, count_without_other, sum_moved}
-use Rattle.b1_inv_peer.proofs.RecordLists.{fewer_changed, more_expected, unnoticed_changed, unnoticed_one_more, unnoticed_noticed, unnoticed_expected}
+use Rattle.b1_inv_peer.proofs.Counts.{one, count_put, count_none, count_without_le, count_without_other, sum_moved}
+use Rattle.b1_inv_peer.proofs.RecordLists.{fewer_changed, more_expected, unnoticed_one_more, unnoticed_noticed, unnoticed_expected}
 use Rattle.b1_inv_peer.proofs.Places.{places_le, places_one_more, places_one_less, places_made}
 use Rattle.b1_inv_peer.proofs.Entries.{notice_of_none, data_committed, notice_of_committed}
-use Rattle.b1_inv_peer.proofs.CommitEvents.{staged_notice, same_notice_of}
-use Rattle.b1_inv_peer.proofs.NodeEvents.{release_is_no_message}
 
 abbrev Queue : Type 0
 Queue = List (Key × Entry)

@@ -1,13 +1,11 @@
 -- What the methods of a peer need of its part and their arguments.
-use Rattle.std.specs.Prelude.{◌≡◌, ◌≢◌, ℕ, ◌+◌, ◌<◌, ◌%◌, ◌^◌, max, true, List, [], ◌∷◌, All, AllPairs, filter, map, length, slice_get, Option, Some, None}
+use Rattle.std.specs.Prelude.{◌≡◌, ◌≢◌, ℕ, ◌+◌, ◌<◌, ◌%◌, ◌^◌, max, true, List, [], ◌∷◌, All, length, slice_get, Option, Some, None}
 use Rattle.b1_model.specs.declared.naming.Key.{Key}
 use Rattle.b1_model.specs.declared.naming.NodeRef.{NodeRef}
 use Rattle.b1_model.specs.declared.parts.Slot.{Slot}
 use Rattle.b1_model.specs.declared.parts.Slot.TheVariants as slot
 use Rattle.b1_model.specs.declared.entries.Entry.{Entry}
 use Rattle.b1_model.specs.MachineParts.{PeerPart, HandleRecord, node_at, is_dying, carried, no_origin}
-use Rattle.b1_model.specs.MachineTables.{is_staged_notice}
-use Rattle.b1_model.specs.MachineSend.{find_stage, with_stamp}
 use Rattle.b1_model.specs.MachineReceive.{dropped_refs, is_released}
 use Rattle.b1_model.specs.MachineDestroy.{needs_notice}
 use Rattle.b1_step.specs.Rights.{Has}

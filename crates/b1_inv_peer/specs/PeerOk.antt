@@ -1,5 +1,5 @@
 -- What is always so of a peer's part by itself, and how much room it needs that events take no memory.
-use Rattle.std.specs.Prelude.{◌≡◌, ◌≢◌, ℕ, zero, suc, ◌+◌, ◌<◌, ◌≤◌, ◌==◌, Bool, true, false, ◌&&◌, if◌then◌else◌, List, [], ◌∷◌, get_or, length, sum_by, Some}
+use Rattle.std.specs.Prelude.{◌≡◌, ◌≢◌, ℕ, zero, suc, ◌+◌, ◌<◌, ◌≤◌, ◌==◌, Bool, true, false, ◌&&◌, if◌then◌else◌, List, get_or, length, sum_by, Some}
 use Rattle.b1_model.specs.declared.limits.TheConstants.{MOST_HANDLES, MOST_PAYLOAD}
 use Rattle.b1_model.specs.declared.naming.Key.{Key}
 use Rattle.b1_model.specs.declared.naming.NodeRef.{NodeRef}

@@ -10,7 +10,7 @@ ghost use Rattle.b1_peer_pool.specs.Slices.{is_queued, len_at};
 ghost use Rattle.b1_peer_pool.specs.Stored.{IsStored};
 ghost use Rattle.b1_peer_carried.specs.Carry.{AreCarried, HasTables, may_arrive};
 ghost use Rattle.b1_peer.specs.Answers.{IsDelivered};
-ghost use Rattle.b1_peer.specs.Arrivals.{HasArrived};
+ghost use Rattle.b1_peer.specs.Arrivals.{Arrives, CanArrive};
 
 use b1_handles::HandleTable;
 use b1_model::{Bytes, Key, MOST_HANDLES, MOST_PAYLOAD, NodeRef, Nums, Receipt, Slot};
@@ -20,6 +20,25 @@ use b1_peer_dead::DeadList;
 use b1_peer_pool::{Store, padded_length};
 use b1_pool::PoolKind;
 
+/// A message that was taken from the queue, and a buffer for the numbers of its handles.
+#[derive(Drop)]
+pub struct Delivery<'a> {
+    /// Its key.
+    pub key: Key,
+    /// The number of the node that it is for.
+    pub number: u64,
+    /// Where its slice begins in the pool.
+    pub offset: u32,
+    /// The nodes that it carries.
+    pub with: &'a [NodeRef],
+    /// Their slots.
+    pub slots: &'a [Slot],
+    /// Its payload.
+    pub payload: Bytes,
+    /// An empty buffer.
+    pub numbers: Vec<u64>,
+}
+
 /// The receipt of a message: its slots arrive, its slice is published with the handles' numbers, and the references that
 /// are given up at once come on the dead list.
 pub fn receive<P: PoolKind>(
@@ -28,36 +47,30 @@ pub fn receive<P: PoolKind>(
     dead: &mut DeadList,
     nodes: &NodeTable,
     me: u32,
-    key: Key,
-    number: u64,
-    offset: u32,
-    with: &[NodeRef],
-    slots: &[Slot],
-    payload: Bytes,
-    numbers: Vec<u64>,
+    delivery: Delivery<'_>,
 ) -> Receipt
-    requires stored { IsStored store.old }
-    requires queued { IsTrue (is_queued offset store.old.slices) }
-    requires within { padded_len (length payload) + 8 * length with.now ≤ len_at offset store.old.slices }
-    requires short { length payload ≤ MOST_PAYLOAD }
-    requires few { length with.now ≤ MOST_HANDLES }
-    requires room { 1 ≤ dead.old.room }
-    requires empty { numbers.items ≡ [] }
-    requires capacity { MOST_HANDLES ≤ vec_capacity numbers }
-    requires may_arrive { All (λ one. may_arrive me (length nodes.now.nodes) one ≡ true) (zip with.now slots.now) }
-    requires carried { AreCarried (foreign me with.now) handles.old.records }
+    requires empty { delivery.numbers.items ≡ [] }
+    requires capacity { MOST_HANDLES ≤ vec_capacity delivery.numbers }
+    requires may_arrive { CanArrive me nodes.now store.old handles.old dead.old delivery }
     requires fits { All (λ h. h.held < 2 ^ 62) handles.old.records }
     requires numbered { handles.old.given + MOST_HANDLES < 2 ^ 60 }
-    requires holds { Holds offset store.old.bytes (padded payload) }
-    ensures arrived { (x : PeerPart) → HasTables me nodes.now.nodes handles.old x → HasArrived x key number offset with.now slots.now payload result handles.new dead.old.items dead.new.items }
-    ensures slices { store.new.slices ≡ published offset store.old.slices }
+    ensures arrived { Arrives me nodes.now handles.old dead.old delivery.entry result handles.new dead.new }
+    ensures slices { store.new.slices ≡ published delivery.entry.offset store.old.slices }
     ensures size { store.new.size ≡ store.old.size }
     ensures stored { IsStored store.new }
-    ensures others { SameElsewhere offset store.old.slices store.old.bytes store.new.bytes }
+    ensures others { SameElsewhere delivery.entry.offset store.old.slices store.old.bytes store.new.bytes }
     ensures delivered { IsDelivered store.new.bytes (Ok result) }
     ensures room { dead.old.room ≤ dead.new.room + 1 }
 {
-    let mut numbers = numbers;
+    let Delivery {
+        key,
+        number,
+        offset,
+        with,
+        slots,
+        payload,
+        mut numbers,
+    } = delivery;
     let mut refs = dead.buffer();
     arrive(handles, me, nodes, with, slots, &mut numbers, &mut refs);
     let at = padded_length(payload.len() as u32);

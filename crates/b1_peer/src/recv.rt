@@ -9,7 +9,7 @@ ghost use Rattle.b1_inv_peer.specs.Needs.{HeldFew};
 
 use crate::front::Kind;
 use crate::leave::{drop_message, take_key};
-use crate::receive::receive;
+use crate::receive::{Delivery, receive};
 use crate::state::PeerState;
 use b1_model::{Entry, Front, INVALID, MOST_HANDLES, NodeRef, Receipt, Received};
 use b1_pool::PoolKind;
@@ -163,13 +163,15 @@ impl<Q: QueueKind, P: PoolKind> PeerState<Q, P> {
             &mut self.dead,
             &self.nodes,
             self.me,
-            key,
-            number,
-            offset,
-            with.as_slice(),
-            slots.as_slice(),
-            payload,
-            numbers,
+            Delivery {
+                key,
+                number,
+                offset,
+                with: with.as_slice(),
+                slots: slots.as_slice(),
+                payload,
+                numbers,
+            },
         )
     }
 

@@ -1,4 +1,4 @@
-use Rattle.std.proofs.Common.{◌≡◌, ◌≢◌, ℕ, ◌==◌, Option, Some, cond, false, ap, ◌∙◌, refl}
+use Rattle.std.proofs.Common.{◌≡◌, ◌≢◌, ℕ, ◌==◌, Option, cond, ap, ◌∙◌}
 use Rattle.std.proofs.lemmas.Bool.{ne_eqb}
 use Rattle.b1_pool.specs.declared.slices.Slice.{Slice}
 use Rattle.b1_pool.proofs.UsedLemmas.{used_at-with_alloc, used_at-published, used_at-given_back}

@@ -1,4 +1,4 @@
-use Rattle.std.proofs.Common.{◌≡◌, ◌==◌, ℕ, List, ap, ◌∙◌}
+use Rattle.std.proofs.Common.{◌==◌, ℕ, List, ap, ◌∙◌}
 use Rattle.std.specs.List.{list_any}
 use Rattle.b1_peer.proofs.KeptMake.{any_user}
 use Rattle.b1_peer.proofs.state.PeerState.make.Goals as goal

@@ -14,29 +14,10 @@ use Rattle.b1_peer.proofs.state.PeerState.take_message.Goals as goal
 pub number-number-requires : goal.number-number-requires
 number-number-requires g c = front_made c.self.inside.me _ c.args.serial c.self.inside.mail.queue (of_fields (λ (s : PeerSeen). kind_of s.part.queue ≡ kind.Message c.args.serial) _ _ c.self.invariant c.self.view_is c.requires.kind) c.self.invariant.ok.messages
 
-pub receive-requires-clause-queued : goal.receive-requires-clause-queued
-receive-requires-clause-queued g c = (taken_arrivable _ _ c.self.invariant c.self.view_is c.args.serial c.requires.kind c.take.result c.in-Some.key c.in-Some.entry c.in-Some.is c.take.ensures.front _ _ _ _ _ _ _ c.as_slice.result.now _ c.as_slice-2.result.now _ _ c.in-Message.is c.as_slice.ensures c.as_slice-2.ensures).queued
-
-pub receive-requires-clause-within : goal.receive-requires-clause-within
-receive-requires-clause-within g c = (taken_arrivable _ _ c.self.invariant c.self.view_is c.args.serial c.requires.kind c.take.result c.in-Some.key c.in-Some.entry c.in-Some.is c.take.ensures.front _ _ _ _ _ _ _ c.as_slice.result.now _ c.as_slice-2.result.now _ _ c.in-Message.is c.as_slice.ensures c.as_slice-2.ensures).within
-
-pub receive-requires-clause-short : goal.receive-requires-clause-short
-receive-requires-clause-short g c = (taken_arrivable _ _ c.self.invariant c.self.view_is c.args.serial c.requires.kind c.take.result c.in-Some.key c.in-Some.entry c.in-Some.is c.take.ensures.front _ _ _ _ _ _ _ c.as_slice.result.now _ c.as_slice-2.result.now _ _ c.in-Message.is c.as_slice.ensures c.as_slice-2.ensures).short
-
-pub receive-requires-clause-few : goal.receive-requires-clause-few
-receive-requires-clause-few g c = (taken_arrivable _ _ c.self.invariant c.self.view_is c.args.serial c.requires.kind c.take.result c.in-Some.key c.in-Some.entry c.in-Some.is c.take.ensures.front _ _ _ _ _ _ _ c.as_slice.result.now _ c.as_slice-2.result.now _ _ c.in-Message.is c.as_slice.ensures c.as_slice-2.ensures).few
-
-pub receive-requires-clause-room : goal.receive-requires-clause-room
-receive-requires-clause-room g c = (taken_arrivable _ _ c.self.invariant c.self.view_is c.args.serial c.requires.kind c.take.result c.in-Some.key c.in-Some.entry c.in-Some.is c.take.ensures.front _ _ _ _ _ _ _ c.as_slice.result.now _ c.as_slice-2.result.now _ _ c.in-Message.is c.as_slice.ensures c.as_slice-2.ensures).room
-
 pub receive-requires-clause-may_arrive : goal.receive-requires-clause-may_arrive
-receive-requires-clause-may_arrive g c = (taken_arrivable _ _ c.self.invariant c.self.view_is c.args.serial c.requires.kind c.take.result c.in-Some.key c.in-Some.entry c.in-Some.is c.take.ensures.front _ _ _ _ _ _ _ c.as_slice.result.now _ c.as_slice-2.result.now _ _ c.in-Message.is c.as_slice.ensures c.as_slice-2.ensures).may
-
-pub receive-requires-clause-carried : goal.receive-requires-clause-carried
-receive-requires-clause-carried g c = (taken_arrivable _ _ c.self.invariant c.self.view_is c.args.serial c.requires.kind c.take.result c.in-Some.key c.in-Some.entry c.in-Some.is c.take.ensures.front _ _ _ _ _ _ _ c.as_slice.result.now _ c.as_slice-2.result.now _ _ c.in-Message.is c.as_slice.ensures c.as_slice-2.ensures).carried
-
-pub receive-requires-clause-holds : goal.receive-requires-clause-holds
-receive-requires-clause-holds g c = (taken_arrivable _ _ c.self.invariant c.self.view_is c.args.serial c.requires.kind c.take.result c.in-Some.key c.in-Some.entry c.in-Some.is c.take.ensures.front _ _ _ _ _ _ _ c.as_slice.result.now _ c.as_slice-2.result.now _ _ c.in-Message.is c.as_slice.ensures c.as_slice-2.ensures).holds
+receive-requires-clause-may_arrive g c =
+    let can = taken_arrivable _ _ c.self.invariant c.self.view_is c.args.serial c.requires.kind c.take.result c.in-Some.key c.in-Some.entry c.in-Some.is c.take.ensures.front _ _ _ _ _ _ _ c.as_slice.result.now _ c.as_slice-2.result.now _ _ c.in-Message.is c.as_slice.ensures c.as_slice-2.ensures in
+    record { stored = c.self.invariant.stored; queued = can.queued; within = can.within; holds = can.holds; short = can.short; few = can.few; may = can.may; carried = can.carried; room = can.room }
 
 pub receive-requires-clause-fits : goal.receive-requires-clause-fits
 receive-requires-clause-fits g c = all_from_has (λ (h : HandleRecord). h.held < 2 ^ 62) c.self.inside.handles.records (of_fields (λ (s : PeerSeen). HeldFew s.part) _ _ c.self.invariant c.self.view_is c.requires.held)
