@@ -1,5 +1,6 @@
 -- How large nodes, given numbers, held handles and counts can be, by the wires and the calls.
 use Rattle.std.specs.Prelude.{◌≤◌, ◌*◌, ℕ, ◌+◌, Bool, true, false, if◌then◌else◌, length, Some, None, sum_by}
+use Rattle.b1_model.specs.declared.limits.TheConstants.{MOST_HANDLES}
 use Rattle.b1_model.specs.declared.naming.Key.{Key}
 use Rattle.b1_model.specs.declared.naming.Opening.{Opening}
 use Rattle.b1_model.specs.declared.entries.Entry.{Entry}
@@ -48,4 +49,4 @@ pub record BoundsRight (o : Opening) (s : State) : Type 0 where
   pub held : (p : ℕ) (d : DriverPart) (x : PeerPart) (h : HandleRecord) → IsDriver s p d → IsPeer s p x → Has x.handles h → h.held ≤ call_bound o d
   pub counts : (q : ℕ) (x : PeerPart) (serial holder : ℕ) → IsPeer s q x → count_of (node_at x serial) holder ≤ all_calls_bound o s
   pub attached : (q : ℕ) (x : PeerPart) (serial holder : ℕ) → IsPeer s q x → count_of (node_at x serial) holder ≤ all_attaches_bound o s
-  pub carried : (q : ℕ) (x : PeerPart) (f : Key × Entry) → IsPeer s q x → Has x.queue f → length (carried f.1) ≤ 64
+  pub carried : (q : ℕ) (x : PeerPart) (f : Key × Entry) → IsPeer s q x → Has x.queue f → length (carried f.1) ≤ MOST_HANDLES

@@ -10,3 +10,4 @@ pub mod Bounds
 pub mod Clocks
 pub mod Receipts
 pub mod Sound
+pub mod Kept

@@ -1,6 +1,7 @@
 -- How far an open SEND is, by its phase.
 use Rattle.std.specs.Prelude.{◌≡◌, ◌≢◌, ◌<◌, ◌≤◌, ◌⊎◌, ⊤, ℕ, true, false, [], length, get_or, Some}
 use Rattle.std.specs.List.{All}
+use Rattle.b1_model.specs.declared.limits.TheConstants.{MOST_DESTINATIONS, MOST_HANDLES, MOST_PAYLOAD}
 use Rattle.b1_model.specs.declared.naming.NodeRef.{NodeRef}
 use Rattle.b1_model.specs.declared.commands.Command.{Command}
 use Rattle.b1_model.specs.declared.commands.Command.TheVariants as cmd
@@ -15,13 +16,13 @@ use Rattle.b1_model.specs.MachineParts.{DriverPart, State}
 use Rattle.b1_model.specs.MachineDriver.{send_of, node_of_place}
 use Rattle.b1_inv.specs.Words.{IsDriver, IsMade, is_accepted_place}
 
--- a SEND that its begin accepted: 1 to 64 destinations, at most 64 handles, at most 65,536 bytes
+-- a SEND that its begin accepted: at least one destination, and not too many destinations, handles and bytes
 pub record IsSend (command : Command) : Type 0 where
   pub is_send : command ≡ cmd.Send (send_of command)
   pub some : 1 ≤ length (send_of command).to
-  pub destinations : length (send_of command).to ≤ 64
-  pub handles : length (send_of command).with ≤ 64
-  pub payload : length (send_of command).payload ≤ 65536
+  pub destinations : length (send_of command).to ≤ MOST_DESTINATIONS
+  pub handles : length (send_of command).with ≤ MOST_HANDLES
+  pub payload : length (send_of command).payload ≤ MOST_PAYLOAD
 
 -- the nodes that a begin found: one made node for each number
 pub record IsBegun (s : State) (command : Command) (begun : Begun) : Type 0 where

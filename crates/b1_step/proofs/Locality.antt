@@ -25,7 +25,6 @@ use Rattle.b1_step.specs.Ordered.{Rising}
 use Rattle.b1_step.proofs.Rises.{rises as records_rise}
 use Rattle.b1_step.proofs.Drivers.{grows}
 use Rattle.b1_step.proofs.Growth.{calls_grow}
-use Rattle.b1_step.proofs.Memory.{same}
 
 -- ---- one step of a state
 

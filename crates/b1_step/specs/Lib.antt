@@ -1,3 +1,4 @@
 pub mod Rights
 pub mod Fixed
 pub mod Ordered
+pub mod Laws
