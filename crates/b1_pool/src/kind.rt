@@ -1,6 +1,6 @@
 //! The calls of a pool.
 
-ghost use Rattle.std.specs.Prelude.{◌≡◌, ℕ, ◌+◌, ◌≤◌, List, length, replicate, IsTrue, IsOk, is_ok, OnOk, IfOk, IfErr, Some, if◌then◌else◌};
+ghost use Rattle.std.specs.Prelude.{◌≡◌, ℕ, ◌+◌, ◌≤◌, List, length, replicate, IsTrue, is_ok, OnOk, IfOk, IfErr, Some, if◌then◌else◌};
 ghost use Rattle.b1_pool.specs.Slices.{IsPool, IsPoolSize, IsLength, IsBestFit, one_free, slice_at, begins, is_used, is_unpublished, is_published, length_at, largest_free, has_fit, best_fit, with_alloc, given_back, published};
 ghost use Rattle.b1_pool.specs.Bytes.{bytes_from, written};
 ghost use Rattle.b1_pool.specs.declared.slices.Slice.{Slice as Slices};

@@ -1,9 +1,9 @@
 //! A pool that keeps its slices in a list.
 
-ghost use Rattle.std.specs.Prelude.{◌≡◌, ℕ, ◌+◌, ◌-◌, ◌<◌, ◌≤◌, ◌^◌, List, length, replicate, IsTrue, IfOk, OnOk, is_ok, IfErr, Some, vec_len, if◌then◌else◌};
+ghost use Rattle.std.specs.Prelude.{◌+◌, ◌-◌, ◌<◌, length, Some, vec_len, if◌then◌else◌};
 ghost use Rattle.std.specs.Vec.{vec_capacity};
-ghost use Rattle.b1_pool.specs.Slices.{IsPool, IsPoolSize, IsLength, IsMerged, is_fit, begins, slice_at, with_alloc, given_back, one_free, length_at};
-ghost use Rattle.b1_pool.specs.Bytes.{Shown, bytes_from, written};
+ghost use Rattle.b1_pool.specs.Slices.{IsPool};
+ghost use Rattle.b1_pool.specs.Bytes.{Shown};
 
 use crate::kind::{Full, Memory, NoSlice, PoolKind};
 use crate::places::{cancel_at, find_largest, find_least, publish_at, release_at, take_front};

@@ -1,8 +1,8 @@
 //! Where slices stand in a pool's list of them, and changes of that list.
 
-ghost use Rattle.std.specs.Prelude.{◌≡◌, ◌≢◌, ℕ, ◌+◌, ◌-◌, ◌<◌, ◌≤◌, ◌^◌, List, length, take, drop, ◌++◌, ◌∷◌, [], true, false, IsTrue, IfSome, IfNone, Some, None, slice_get, MatchOption, vec_len, is_some, is_ok, ◌&&◌, if◌then◌else◌};
+ghost use Rattle.std.specs.Prelude.{◌≡◌, ℕ, ◌+◌, ◌-◌, ◌<◌, ◌≤◌, ◌^◌, length, IsTrue, IfSome, IfNone, Some, None, MatchOption, vec_len, is_ok, ◌&&◌, if◌then◌else◌};
 ghost use Rattle.std.specs.Vec.{vec_capacity};
-ghost use Rattle.b1_pool.specs.Slices.{slice_at, length_at, begins, is_used, is_free, is_fit, is_before, least_fit, largest_free, merged, whole, published, with_alloc, given_back, is_unpublished, is_published, IsMerged, IsPool, IsLength};
+ghost use Rattle.b1_pool.specs.Slices.{slice_at, length_at, begins, is_free, is_fit, is_before, least_fit, largest_free, merged, whole, published, with_alloc, given_back, is_unpublished, is_published, IsMerged, IsPool, IsLength};
 ghost use Rattle.b1_pool.specs.Places.{IsPlace, total, joined_at, freed_at, so_far, IsFreePair};
 
 use crate::kind::NoSlice;
