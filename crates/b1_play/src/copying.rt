@@ -33,6 +33,7 @@ pub fn copy_command(alloc: Global, command: &Command) -> Result<Command, AllocEr
         Command::Disconnect => Command::Disconnect,
         Command::Query => Command::Query,
         Command::Reset { limits } => Command::Reset { limits: *limits },
+        Command::Limit { limits } => Command::Limit { limits: *limits },
         Command::Release { number } => Command::Release { number: *number },
         Command::Destroy { numbers } => Command::Destroy {
             numbers: Nums::from_slice(alloc, numbers.as_slice())?,
