@@ -5,6 +5,8 @@
 #[cfg(test)]
 mod buses;
 #[cfg(test)]
+mod limits;
+#[cfg(test)]
 mod openings;
 #[cfg(test)]
 mod plays;

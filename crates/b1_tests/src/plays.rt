@@ -49,6 +49,7 @@ fn a_send_is_played(rt: HostRuntime) -> Result<(), Fail> {
         opening,
         commands: CommandLists::from_vec(lists),
         turns: Turns::new(alloc),
+        cookies: None,
     };
     let Played::Done(outcome) = play(alloc, &script)? else {
         panic!(rt; "the script is not played to its end")
