@@ -28,7 +28,7 @@ use Rattle.b1_model.specs.MachineStep.{Label, Leads, Reached, Step, begun, idle_
 use Rattle.b1_model.specs.declared.naming.PeerSpec.{PeerSpec}
 use Rattle.b1_step.proofs.Lists.{set_cases}
 use Rattle.b1_core.specs.Shown.{PhaseShown, OpenShown, AreShown}
-use Rattle.b1_core.proofs.Opened.{begins, opened, effect_is, aimed_at}
+use Rattle.b1_event.proofs.Opened.{begins, opened, effect_is, aimed_at}
 
 -- ---- what a turn leaves
 
@@ -88,6 +88,7 @@ await_or : (command : Command) → (is_await command ≡ false) ⊎ (command ≡
 await_or cmd.Disconnect = inl refl
 await_or cmd.Query = inl refl
 await_or (cmd.Reset limits) = inl refl
+await_or (cmd.Limit limits) = inl refl
 await_or (cmd.Release number) = inl refl
 await_or (cmd.Destroy numbers) = inl refl
 await_or (cmd.SliceRelease offset) = inl refl

@@ -111,3 +111,13 @@ script_ended lists p d none idle = by d.doing (next_command lists p d) none idle
 -- the part of a driver of a bus
 pub driver_is : (b : Bus) (o : Opening) (lists : List (List Command)) (xs : List PeerSeen) (ds : List Driver) (p : ℕ) (d : Driver) → record { opening = o; commands = lists; state = state_of xs ds } ≡ b → p < length ds → d ≡ get_or ds p d → driver_at b.state p ≡ d.part
 driver_is b o lists xs ds p d view within is = ap (λ (c : Bus). driver_at c.state p) (sym view) ∙ part_is ds p d within is
+
+-- memory is wanted only where a command begins, so none is open there
+pub closed_tried : {T E : Type 0} (b : Bus) (p : ℕ) (command : Option Command) (r : Result T E) → OnErr r (is_none command ≡ false) → is_none command ≡ not (is_none (driver_at b.state p).doing) → OnErr r (has_open b p ≡ false)
+closed_tried b p command (Ok t) begins is = begins
+closed_tried b p command (Err e) begins is = sym is ∙ begins
+
+-- what holds anyway holds where memory is wanted
+pub on_error : {T E : Type 0} (P : Type 0) (r : Result T E) → P → OnErr r P
+on_error P (Ok t) holds = tt
+on_error P (Err e) holds = holds

@@ -15,10 +15,11 @@ use Rattle.b1_model.specs.MachineStep.{Reached, no_peer, with_part, wire_made, w
 use Rattle.b1_step.specs.Rights.{Has}
 use Rattle.b1_inv.specs.Words.{IsPeer, IsDriver}
 use Rattle.b1_inv.specs.Bounds.{call_bound}
-use Rattle.b1_core.specs.Sound.{Sound}
+use Rattle.b1_inv.specs.Sound.{IsSound}
 use Rattle.b1_core.specs.Wiring.{part_of, CanCount, CanHold, CanPass, CanGive}
-use Rattle.b1_core.proofs.Bounds.{IsShort, calls_few, all_calls_few}
-use Rattle.b1_core.proofs.Facts.{peer_within, few_drivers}
+use Rattle.b1_event.specs.Borne.{AreShort}
+use Rattle.b1_event.proofs.Bounds.{calls_few, all_calls_few}
+use Rattle.b1_event.proofs.Facts.{peer_within, few_drivers}
 use Rattle.b1_core.proofs.Wiring.{Plain, ArePlain, with_wires, fewer, after, after_is, next_wired, plain_part, made_plain, after_plain, has_get, held_there, found_or, count_rises, set_read, set_apart, there, made_me}
 
 some_same : {A : Type 0} (x y : A) → Some x ≡ Some y → x ≡ y
@@ -46,14 +47,14 @@ module _ (f : PeerPart → PeerPart) (keeps : (x : PeerPart) → ((f x).me ≡ x
         (ap (λ z. z.me) at, ap (λ z. z.peers) at)
   ]
 
-module _ (law : (o : Opening) (s : State) → IsOpening o → Reached o s → Sound o s) (o : Opening) (opening : IsOpening o) where
+module _ (law : (o : Opening) (s : State) → IsOpening o → Reached o s → IsSound o s) (o : Opening) (opening : IsOpening o) where
   abbrev pub state_after : List Wire → State
   state_after ws = opening_state (with_wires o ws)
 
-  pub sound_after : (ws rest : List Wire) → ws ++ rest ≡ o.wires → Sound (with_wires o ws) (state_after ws)
+  pub sound_after : (ws rest : List Wire) → ws ++ rest ≡ o.wires → IsSound (with_wires o ws) (state_after ws)
   sound_after ws rest split = law (with_wires o ws) (state_after ws) (fewer o ws rest opening split) (record { steps = []; run = refl })
 
-  pub short_after : (ws : List Wire) → IsShort (state_after ws)
+  pub short_after : (ws : List Wire) → AreShort (state_after ws)
   short_after ws p d is = let none = ap length (idle_calls 0 o.peers p d is) in omega (arith, none)
 
   -- a peer's bound
@@ -69,14 +70,14 @@ module _ (law : (o : Opening) (s : State) → IsOpening o → Reached o s → So
     abbrev ys : List PeerPart
     ys = with_part w.from (wire_made w.number) xs
 
-    before : Sound (with_wires o ws) (state_after ws)
+    before : IsSound (with_wires o ws) (state_after ws)
     before = sound_after ws (w ∷ rest) split
 
-    behind : Sound (with_wires o (ws ++ w ∷ [])) (state_after (ws ++ w ∷ []))
+    behind : IsSound (with_wires o (ws ++ w ∷ [])) (state_after (ws ++ w ∷ []))
     behind = sound_after (ws ++ w ∷ []) rest (append_assoc ws (w ∷ []) rest ∙ split)
 
     as_many : length xs ≡ length o.peers
-    as_many = before.all.numbered.as_many_peers
+    as_many = before.numbered.as_many_peers
 
     can : (held : List Wire) × CanWire (length o.peers) held w
     can = next_wired (length o.peers) [] ws w rest (subst (AreWired (length o.peers) []) (sym split) opening.wires)
@@ -96,7 +97,7 @@ module _ (law : (o : Opening) (s : State) → IsOpening o → Reached o s → So
     nodes_few : length (part_of xs w.from).nodes < 2 ^ 32 - 1
     nodes_few =
         let (d, is, bound) = bound_after ws (w ∷ rest) split w.from can.1.from in
-        let k = before.all.bounds.nodes w.from d (part_of xs w.from) is (there xs w.from giver) in
+        let k = before.bounds.nodes w.from d (part_of xs w.from) is (there xs w.from giver) in
         omega (arith, k, bound)
 
     module _ (node : NodeRef) (named : node_named (part_of ys w.from) w.number ≡ Some node) where
@@ -130,17 +131,17 @@ module _ (law : (o : Opening) (s : State) → IsOpening o → Reached o s → So
       apart : w.to ≢ node.owner
       apart same =
           let (g, has, owner, serial) = record_is in
-          behind.all.flights.foreign w.to (wire_held node (part_of us w.to)) g held_at has (owner ∙ sym same)
+          behind.flights.foreign w.to (wire_held node (part_of us w.to)) g held_at has (owner ∙ sym same)
 
       made : (z : PeerPart) × IsPeer (state_after (ws ++ w ∷ [])) node.owner z × (node.serial < length z.nodes)
       made =
           let (g, has, owner, serial) = record_is in
-          let (z, is, within) = behind.all.flights.made w.to (wire_held node (part_of us w.to)) g held_at has in
+          let (z, is, within) = behind.flights.made w.to (wire_held node (part_of us w.to)) g held_at has in
           (z, subst (λ n. IsPeer (state_after (ws ++ w ∷ [])) n z) owner is, subst (λ n. n < length z.nodes) serial within)
 
       owner_within : node.owner < length xs
       owner_within =
-          let k = peer_within (with_wires o (ws ++ w ∷ [])) (state_after (ws ++ w ∷ [])) behind.all node.owner made.0 made.1 in
+          let k = peer_within (with_wires o (ws ++ w ∷ [])) (state_after (ws ++ w ∷ [])) behind node.owner made.0 made.1 in
           omega (arith, k, as_many_vs, ap length vs_is)
 
       -- the owner's part afterwards
@@ -162,8 +163,8 @@ module _ (law : (o : Opening) (s : State) → IsOpening o → Reached o s → So
 
       counts : count_of (node_at (part_of ys node.owner) node.serial) w.to < 2 ^ 63
       counts =
-          let after_one = behind.all.bounds.counts node.owner made.0 node.serial w.to made.1 in
-          let bound = all_calls_few (with_wires o (ws ++ w ∷ [])) (state_after (ws ++ w ∷ [])) (fewer o (ws ++ w ∷ []) rest opening (append_assoc ws (w ∷ []) rest ∙ split)).few (few_drivers (with_wires o (ws ++ w ∷ [])) (state_after (ws ++ w ∷ [])) behind.all) (short_after (ws ++ w ∷ [])) in
+          let after_one = behind.bounds.counts node.owner made.0 node.serial w.to made.1 in
+          let bound = all_calls_few (with_wires o (ws ++ w ∷ [])) (state_after (ws ++ w ∷ [])) (fewer o (ws ++ w ∷ []) rest opening (append_assoc ws (w ∷ []) rest ∙ split)).few (few_drivers (with_wires o (ws ++ w ∷ [])) (state_after (ws ++ w ∷ [])) behind) (short_after (ws ++ w ∷ [])) in
           let node_is : node_at made.0 node.serial ≡ counted w.to (node_at (part_of ys node.owner) node.serial) = ap (λ z. node_at z node.serial) owner_is ∙ set_read (part_of ys node.owner).nodes node.serial (counted w.to (node_at (part_of ys node.owner) node.serial)) no_node serial_made in
           let rises = count_rises (node_at (part_of ys node.owner) node.serial).counts w.to in
           let same = ap (λ m. count_of m w.to) node_is in
@@ -173,7 +174,7 @@ module _ (law : (o : Opening) (s : State) → IsOpening o → Reached o s → So
       owner_kept = part_keeps (wire_made w.number) (made_me w.number) xs w.from node.owner owner_within
 
       owner_number : ((part_of xs node.owner).me ≡ node.owner) × ((part_of xs node.owner).peers ≡ length o.peers)
-      owner_number = let k = before.all.numbered.peers node.owner (part_of xs node.owner) (there xs node.owner owner_within) in (k.me, k.peers)
+      owner_number = let k = before.numbered.peers node.owner (part_of xs node.owner) (there xs node.owner owner_within) in (k.me, k.peers)
 
       -- the other peer's part
       dest_is : part_of ys w.to ≡ part_of xs w.to
@@ -204,14 +205,14 @@ module _ (law : (o : Opening) (s : State) → IsOpening o → Reached o s → So
           holds : CanHold (part_of ys w.to) node
           holds =
               let (d, is, bound) = bound_after ws (w ∷ rest) split w.to can.1.to in
-              let given = before.all.bounds.given w.to d (part_of xs w.to) is dest_there in
-              let number = (before.all.numbered.peers w.to (part_of xs w.to) dest_there).me in
+              let given = before.bounds.given w.to d (part_of xs w.to) is dest_there in
+              let number = (before.numbered.peers w.to (part_of xs w.to) dest_there).me in
               record {
                 other = λ same. apart (sym number ∙ ap (λ z. z.me) (sym dest_is) ∙ sym same);
                 few = let k = ap (λ z. z.given) dest_is in omega (arith, given, bound, k);
                 not_dead = found_or (λ h. h.dead ≡ false) (λ h. same_ref h.node node) (part_of ys w.to).handles (no_record node) refl dest_alive.alive;
                 fits = subst (λ z. (record_or_none node z.handles).held < 2 ^ 63) (sym dest_is)
-                    (found_or (λ h. h.held < 2 ^ 63) (λ h. same_ref h.node node) (part_of xs w.to).handles (no_record node) (omega arith) (λ h has. let k = before.all.bounds.held w.to d (part_of xs w.to) h is dest_there has in omega (arith, k, bound)));
+                    (found_or (λ h. h.held < 2 ^ 63) (λ h. same_ref h.node node) (part_of xs w.to).handles (no_record node) (omega arith) (λ h has. let k = before.bounds.held w.to d (part_of xs w.to) h is dest_there has in omega (arith, k, bound)));
               }
 
     -- the wire can be given

@@ -1,16 +1,4 @@
-pub mod Opened
 pub mod Attempts
-pub mod Nodes
-pub mod Begun
-pub mod Does
-pub mod Bounds
-pub mod Facts
-pub mod Aims
-pub mod Drops
-pub mod Allowed
-pub mod Notices
-pub mod Weights
-pub mod Next
 pub mod Turning
 pub mod Buses
 pub mod Wiring

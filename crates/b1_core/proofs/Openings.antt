@@ -18,10 +18,11 @@ use Rattle.b1_model.specs.MachineStep.{Reached, no_peer, with_part, wire_made, w
 use Rattle.b1_inv.specs.Bounds.{call_bound}
 use Rattle.b1_driver.specs.Parts.{Driver}
 use Rattle.b1_peer.specs.Seen.{PeerSeen}
-use Rattle.b1_core.specs.Events.{HasUsers}
+use Rattle.b1_event.specs.Events.{HasUsers}
 use Rattle.b1_model.specs.declared.commands.Command.{Command}
-use Rattle.b1_core.specs.Bus.{state_of, AreNew, IsStocked, AreStocked, IsCore, call_limit}
-use Rattle.b1_core.specs.Sound.{Sound}
+use Rattle.b1_core.specs.Bus.{state_of, AreNew, IsStocked, AreStocked, IsCore}
+use Rattle.b1_event.specs.Borne.{call_limit}
+use Rattle.b1_inv.specs.Sound.{IsSound}
 use Rattle.b1_core.proofs.Turning.{at_map, map_set, same_set, read_at}
 use Rattle.b1_core.specs.Wiring.{part_of}
 use Rattle.b1_core.proofs.Giving.{idle_calls}
@@ -88,15 +89,15 @@ driver_more o me parts d within so_far made =
 abbrev pub HasRoomFor : Opening → Driver → Type 0
 HasRoomFor o d = (d.spare ≡ 0) × (d.doomed ≡ length o.wires) × (d.doomed ≤ d.here)
 
-module _ (law : (o : Opening) (s : State) → IsOpening o → Reached o s → Sound o s) (o : Opening) (opening : IsOpening o) where
-  sound : Sound o (opening_state o)
+module _ (law : (o : Opening) (s : State) → IsOpening o → Reached o s → IsSound o s) (o : Opening) (opening : IsOpening o) where
+  sound : IsSound o (opening_state o)
   sound = law o (opening_state o) opening (record { steps = []; run = refl })
 
   few_nodes : (p : ℕ) (x : PeerPart) → slice_get (opening_state o).peers p ≡ Some x → length x.nodes ≤ length o.wires
   few_nodes p x is =
       let within = slice_get_within (opening_state o).peers p x is in
-      let many = sound.all.numbered.as_many_peers in
-      let k = sound.all.bounds.nodes p (idle_driver p) x (idle_at 0 o.peers p (omega (arith, within, many)) ∙ ap (λ n. Some (idle_driver n)) (zero_add p)) is in
+      let many = sound.numbered.as_many_peers in
+      let k = sound.bounds.nodes p (idle_driver p) x (idle_at 0 o.peers p (omega (arith, within, many)) ∙ ap (λ n. Some (idle_driver n)) (zero_add p)) is in
       let none : call_bound o (idle_driver p) ≡ length o.wires + 64 * 0 = refl in
       omega (arith, k, none)
 

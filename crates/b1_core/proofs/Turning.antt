@@ -21,16 +21,13 @@ use Rattle.b1_peer.specs.Seen.{PeerSeen}
 use Rattle.b1_driver.specs.Parts.{Driver}
 use Rattle.b1_core.specs.declared.turn.Turn.{Turn}
 use Rattle.b1_core.specs.declared.turn.Turn.TheVariants as turn
-use Rattle.b1_core.specs.Events.{Allowed, Does, HasStock, HasUsers}
+use Rattle.b1_event.specs.Events.{Allowed, Does, HasStock, HasUsers}
 use Rattle.b1_core.specs.Turns.{Stands, StandsBehind, driver_at}
-use Rattle.b1_core.specs.Bus.{state_of, call_limit, IsStocked, AreStocked, Begins, IsStep}
+use Rattle.b1_core.specs.Bus.{state_of, IsStocked, AreStocked, Begins, IsStep}
 use Rattle.b1_inv_peer.specs.PeerOk.{PeerOk}
-use Rattle.b1_core.specs.Sound.{Sound}
-use Rattle.b1_core.proofs.Opened.{begins, opened, begun_step, target_is}
+use Rattle.b1_event.specs.Borne.{call_limit, AreShort, IsBorne, BearsEvents}
+use Rattle.b1_event.proofs.Opened.{begins, opened, begun_step, target_is}
 use Rattle.b1_core.proofs.Attempts.{reached_shown, step_leaves}
-use Rattle.b1_core.proofs.Bounds.{IsShort}
-use Rattle.b1_core.proofs.Weights.{reached_holds}
-use Rattle.b1_core.proofs.Next.{IsNext, next}
 
 -- ---- lists
 
@@ -105,26 +102,22 @@ module _ (o : Opening) (xs : List PeerSeen) (ds : List Driver) (opening : IsOpen
       let (x, there) = there_at xs p (let w = slice_get_within ds p d is in omega (arith, w, as_many_drivers, as_many_peers)) in
       (x, there, stocked p x d there is)
 
-  pub short : IsShort (state_of xs ds)
+  pub short : AreShort (state_of xs ds)
   short p d is =
       let (e, there, same) = map_at (λ (e : Driver). e.part) ds p d is in
       let few = (stock_at p e there).2.few in
       let calls : length e.part.calls ≡ length d.calls = ap (λ f. length f.calls) same in
       omega (arith, few, calls)
 
-  module _ (sound : Sound o (state_of xs ds)) (p : ℕ) (d : Driver) (is_driver : slice_get ds p ≡ Some d) (command : Option Command) (e : Driver) (is_begun : begun d.part command ≡ Some e.part) (doomed : e.doomed ≡ d.doomed) (here : e.here ≡ d.here) (few : length e.part.calls + e.spare < call_limit) where
+  module _ (bears : BearsEvents o (state_of xs ds)) (p : ℕ) (d : Driver) (is_driver : slice_get ds p ≡ Some d) (command : Option Command) (e : Driver) (is_begun : begun d.part command ≡ Some e.part) (doomed : e.doomed ≡ d.doomed) (here : e.here ≡ d.here) (few : length e.part.calls + e.spare < call_limit) where
     pub part_at : slice_get (state_of xs ds).drivers p ≡ Some d.part
     part_at = at_map (λ (f : Driver). f.part) ds p d is_driver
 
-    pub is_next : IsNext o (state_of xs ds) sound short (reached_holds o (state_of xs ds) reached) p d.part part_at e.part
-    is_next = next o (state_of xs ds) sound short (reached_holds o (state_of xs ds) reached) p d.part part_at command e.part is_begun
+    is_borne : IsBorne o (state_of xs ds) p e.part
+    is_borne = bears p d.part e.part command part_at is_begun
 
     pub number : e.part.me ≡ p
-    number = by (opened d.part e.part command is_begun).old_or_new
-      where
-        by : (e.part ≡ d.part) ⊎ ((c : Command) × (d.part.doing ≡ None) × (e.part ≡ begins d.part c)) → e.part.me ≡ p
-        by (inl same) = ap (λ f. f.me) same ∙ numbered.drivers p d.part part_at
-        by (inr new) = ap (λ f. f.me) new.2 ∙ numbered.drivers p d.part part_at
+    number = is_borne.number
 
     pub same_calls : e.part.calls ≡ d.part.calls
     same_calls = by (opened d.part e.part command is_begun).old_or_new
@@ -141,14 +134,14 @@ module _ (o : Opening) (xs : List PeerSeen) (ds : List Driver) (opening : IsOpen
     at_is = ap (λ n. peer_of n (next_action e.part)) number
 
     pub at_within : at < length xs
-    at_within = let k = is_next.aims in let m = length-map xs (λ (x : PeerSeen). x.part) in omega (arith, k, m, at_is)
+    at_within = let k = is_borne.aims in let m = length-map xs (λ (x : PeerSeen). x.part) in omega (arith, k, m)
 
     module _ (x : PeerSeen) (is_peer : slice_get xs at ≡ Some x) where
       pub peer_at : slice_get (state_of xs ds).peers at ≡ Some x.part
       peer_at = at_map (λ (y : PeerSeen). y.part) xs at x is_peer
 
       pub allowed : PeerOk x.part → Allowed e.part (next_action e.part) x.part
-      allowed ok = is_next.allowed x.part ok (subst (λ n. slice_get (state_of xs ds).peers n ≡ Some x.part) (sym at_is) peer_at)
+      allowed ok = is_borne.allowed x.part peer_at ok
 
       pub users : HasUsers o x.users
       users =
@@ -156,16 +149,13 @@ module _ (o : Opening) (xs : List PeerSeen) (ds : List Driver) (opening : IsOpen
           (stocked at x f is_peer there).users
 
       pub stock : HasStock (next_action e.part) x.part e
-      stock = by (next_action e.part) refl
-        where
-          by : (a : Action) → next_action e.part ≡ a → HasStock a x.part e
-          by act.BeginDestroy is =
-              let own : at ≡ p = ap (peer_of p) is in
-              let s = stocked p x d (subst (λ n. slice_get xs n ≡ Some x) own is_peer) is_driver in
-              let a = s.doomed in
-              let b = s.here in
-              omega (arith, a, b, doomed, here)
-          by a is = tt
+      stock =
+          is_borne.stock x.part e peer_at refl (λ same.
+          let own : at ≡ p = sym (numbered.peers at x.part peer_at).me ∙ same ∙ number in
+          let s = stocked p x d (subst (λ n. slice_get xs n ≡ Some x) own is_peer) is_driver in
+          let a = s.doomed in
+          let b = s.here in
+          omega (arith, a, b, doomed, here))
 
       module _ (f : Driver) (y : PeerSeen) (does : Does o e x f y) where
         -- the step

@@ -17,7 +17,7 @@ use Rattle.b1_model.specs.MachineTables.{count_of, counted, more_held, next_numb
 use Rattle.b1_model.specs.MachineStep.{Reached, no_peer, with_part, wire_made, wire_counted, wire_held, wired, peer_before, peers_before, opening_state}
 use Rattle.b1_step.specs.Rights.{Has}
 use Rattle.b1_step.proofs.Lists.{set_cases, read_same, read_other}
-use Rattle.b1_core.specs.Sound.{Sound}
+use Rattle.b1_inv.specs.Sound.{IsSound}
 use Rattle.b1_core.specs.Wiring.{part_of, CanCount, CanHold, CanPass, CanGive}
 
 -- ---- an opening with fewer wires
@@ -44,6 +44,7 @@ fewer o ws rest is split = record {
   even = is.even;
   clock = is.clock;
   pools = is.pools;
+  together = is.together;
   few = let k = is.few in let l = length-append ws rest in omega (arith, k, l, ap length split);
   wires = fewer_wired (length o.peers) [] ws rest (subst (AreWired (length o.peers) []) (sym split) is.wires);
 }

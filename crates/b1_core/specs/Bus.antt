@@ -1,5 +1,5 @@
 -- The state that peers and drivers stand for, and what always holds of them.
-use Rattle.std.specs.Prelude.{◌≡◌, ℕ, ◌+◌, ◌^◌, ◌<◌, ◌≤◌, not, List, length, map, Option, Some, is_none, slice_get}
+use Rattle.std.specs.Prelude.{◌≡◌, ℕ, ◌+◌, ◌<◌, ◌≤◌, not, List, length, map, Option, Some, is_none, slice_get}
 use Rattle.b1_model.specs.declared.naming.Opening.{Opening}
 use Rattle.b1_model.specs.declared.commands.Command.{Command}
 use Rattle.b1_model.specs.Opening.{IsOpening}
@@ -8,16 +8,13 @@ use Rattle.b1_model.specs.MachineStep.{Step, Reached}
 use Rattle.b1_peer.specs.Seen.{PeerSeen}
 use Rattle.b1_driver.specs.Parts.{Driver}
 use Rattle.b1_core.specs.declared.turn.Turn.{Turn}
-use Rattle.b1_core.specs.Events.{HasUsers}
+use Rattle.b1_event.specs.Events.{HasUsers}
+use Rattle.b1_event.specs.Borne.{call_limit}
 use Rattle.b1_core.specs.Turns.{Stands, driver_at}
 
 -- the state of these peers and drivers
 abbrev pub state_of : List PeerSeen → List Driver → State
 state_of xs ds = record { peers = map (λ x. x.part) xs; drivers = map (λ d. d.part) ds }
-
--- a driver's list has fewer calls than this, with those that there is room for
-abbrev pub call_limit : ℕ
-call_limit = 2 ^ 25
 
 -- what a peer and its driver have beside their parts: the users that may send, room for fewer calls than the limit, and room for as many doomed nodes as were made
 pub record IsStocked (o : Opening) (x : PeerSeen) (d : Driver) : Type 0 where

@@ -76,6 +76,7 @@ impl<Q: QueueKind, P: PoolKind> Core<Q, P> {
         requires peer { p < length self.old.opening.peers }
         ensures turn { IfOk result (λ turn. Turns self.old p turn self.new) }
         ensures err { OnErr result (self.new ≡ self.old) }
+        ensures closed { OnErr result (has_open self.old p ≡ false) }
     {
         match wanted(self.alloc, &self.commands, p, &self.drivers[p as usize])? {
             Some(command) => turn(
@@ -97,6 +98,7 @@ impl<Q: QueueKind, P: PoolKind> Core<Q, P> {
         requires there { (driver_at self.old.state p).shut ≡ false }
         ensures turn { IfOk result (λ turn. Drains self.old p turn self.new) }
         ensures err { OnErr result (self.new ≡ self.old) }
+        ensures closed { OnErr result (has_open self.old p ≡ false) }
     {
         let command = drain_command(&self.drivers[p as usize]);
         turn(

@@ -2,17 +2,10 @@
 #![tactic(auto)]
 
 mod bus;
-mod destroys;
 mod ending;
-mod event;
-mod laws;
 mod making;
-mod receives;
-mod sends;
 mod stepping;
 mod turn;
 
 pub use bus::Core;
-pub use event::do_event;
-pub use laws::reached_states_bear_events;
 pub use turn::Turn;

@@ -1,12 +1,12 @@
 ghost use Rattle.std.specs.Prelude.{◌≡◌, map, All, IfOk, OnOk};
 ghost use Rattle.b1_model.specs.Opening.{IsOpening};
 ghost use Rattle.b1_model.specs.MachineStep.{idle_drivers, opening_state, peers_before as parts_before, wire_counted, wire_held as with_wire_held, wired, with_part};
-ghost use Rattle.b1_core.specs.Events.{HasUsers};
+ghost use Rattle.b1_event.specs.Events.{HasUsers};
 ghost use Rattle.b1_core.specs.Bus.{AreNew};
 ghost use Rattle.b1_core.specs.Wiring.{CanGive, CanPass};
 
-use crate::laws::reached_states_bear_events;
 use b1_driver::DriverState;
+use b1_law::every_reached_state_is_sound;
 use b1_model::{NodeRef, Opening, Peers, Wire, Wires};
 use b1_peer::PeerState;
 use b1_pool::PoolKind;
@@ -33,7 +33,7 @@ pub fn make_peers<Q: QueueKind, P: PoolKind>(
     ensures parts { IfOk result (λ v. map (λ x. x.part) v.items ≡ (opening_state opening.now).peers) }
     ensures users { IfOk result (λ v. All (HasUsers opening.now) (map (λ x. x.users) v.items)) }
 {
-    reached_states_bear_events();
+    every_reached_state_is_sound();
     let mut peers = peers_before(alloc, opening)?;
     for wire in opening.wires.as_slice() {
         give(&mut peers, wire)?;
@@ -94,7 +94,7 @@ pub fn make_drivers(alloc: Global, opening: &Opening) -> Result<Vec<DriverState>
     ensures parts { IfOk result (λ v. map (λ d. d.part) v.items ≡ idle_drivers 0 opening.now.peers) }
     ensures stock { IfOk result (λ v. AreNew (opening_state opening.now).peers v.items) }
 {
-    reached_states_bear_events();
+    every_reached_state_is_sound();
     let count = opening.peers.len();
     let wires = opening.wires.len() as u32;
     let mut drivers = Vec::with_capacity(alloc, count)?;

@@ -1,16 +1,16 @@
-ghost use Rattle.std.specs.Prelude.{◌≡◌, ◌≢◌, ◌+◌, ◌<◌, None, Some, not, length, is_none, option_copied, slice_get, IfOk, OnOk, OnErr};
+ghost use Rattle.std.specs.Prelude.{◌≡◌, ◌≢◌, ◌+◌, ◌<◌, None, Some, false, not, length, is_none, option_copied, slice_get, IfOk, OnOk, OnErr};
 ghost use Rattle.b1_model.specs.Opening.{IsOpening};
 ghost use Rattle.b1_model.specs.MachineStep.{Reached, begun};
 ghost use Rattle.b1_model.specs.MachineDriver.{peer_of};
 ghost use Rattle.b1_model.specs.Script.{commands_of};
 ghost use Rattle.b1_model.specs.MachineOrder.{next_command as command_of_part};
 ghost use Rattle.b1_core.specs.Turns.{drained, IsWanted, StandsBehind};
-ghost use Rattle.b1_core.specs.Bus.{call_limit, state_of, AreStocked, Begins, IsStep};
+ghost use Rattle.b1_core.specs.Bus.{state_of, AreStocked, Begins, IsStep};
+ghost use Rattle.b1_event.specs.Borne.{call_limit};
 
-use crate::event::do_event;
-use crate::laws::reached_states_bear_events;
 use crate::turn::Turn;
 use b1_driver::DriverState;
+use b1_event::{do_event, reached_states_bear_events};
 use b1_model::{Action, Command, CommandLists, Opening};
 use b1_peer::PeerState;
 use b1_pool::PoolKind;
@@ -30,7 +30,8 @@ pub fn wanted(
     p: u32,
     driver: &DriverState,
 ) -> Result<Option<Option<Command>>, AllocError>
-    ensures { IfOk result (λ r. IsWanted commands.now p driver.now.part r) }
+    ensures wanted { IfOk result (λ r. IsWanted commands.now p driver.now.part r) }
+    ensures closed { OnErr result (driver.now.part.doing ≡ None) }
 {
     if driver.command().is_some() {
         return Ok(Some(None));
@@ -99,6 +100,7 @@ pub fn turn<Q: QueueKind, P: PoolKind>(
     ensures stocked { AreStocked opening.now peers.new.items drivers.new.items }
     ensures peers { OnErr result (peers.new.items ≡ peers.old.items) }
     ensures drivers { OnErr result (drivers.new.items ≡ drivers.old.items) }
+    ensures closed { OnErr result (is_none command ≡ false) }
 {
     reached_states_bear_events();
     let driver = &mut drivers[p as usize];
@@ -117,6 +119,7 @@ fn begin(driver: &mut DriverState, command: Option<Command>) -> Result<(), Alloc
     requires few { length driver.old.part.calls + driver.old.spare < call_limit }
     ensures begun { OnOk result (begun driver.old.part command ≡ Some driver.new.part) }
     ensures err { OnErr result (driver.new ≡ driver.old) }
+    ensures closed { OnErr result (is_none command ≡ false) }
     ensures few { length driver.new.part.calls + driver.new.spare < call_limit }
     ensures doomed { driver.new.doomed ≡ driver.old.doomed }
     ensures here { driver.new.here ≡ driver.old.here }

@@ -24,4 +24,4 @@ returns-clause-parts c =
     c.loop-me.invariant.parts ∙ take_all (idle_drivers 0 o.peers) c.loop-me.me (omega (arith, c.loop-me-test.false, c.len-count.ensures, count))
 
 pub returns-clause-stock : goal.returns-clause-stock
-returns-clause-stock c = are_new c.reached_states_bear_events.ensures c.args.opening.now c.requires c.loop-me.drivers.items c.loop-me.invariant.stock
+returns-clause-stock c = are_new c.every_reached_state_is_sound.ensures.reached c.args.opening.now c.requires c.loop-me.drivers.items c.loop-me.invariant.stock

@@ -5,7 +5,7 @@ use Rattle.std.specs.List.{All}
 use Rattle.std.proofs.lemmas.List.Sums.{fold_more}
 use Rattle.std.proofs.Math.Seq.{take-length}
 use Rattle.b1_model.specs.MachineStep.{peers_before, wired}
-use Rattle.b1_core.specs.Events.{HasUsers}
+use Rattle.b1_event.specs.Events.{HasUsers}
 use Rattle.b1_core.specs.Wiring.{CanGive}
 use Rattle.b1_core.proofs.Wiring.{after}
 use Rattle.b1_core.proofs.Giving.{can_give}
@@ -21,7 +21,7 @@ give-requires g c =
     let within = c.loop-wire-test.true in
     let is_within : i < length o.wires = omega (arith, within, ap length same) in
     subst (λ l. CanGive l (get_or c.as_slice-wire-items.result.now i none)) (sym c.loop-wire.invariant.parts)
-    (subst (λ ws. CanGive (after o (take i o.wires)) (get_or ws i none)) (sym same) (can_give c.reached_states_bear_events.ensures o c.requires (take i o.wires) (get_or o.wires i none) (drop (i + 1) o.wires) (split_at o.wires i none is_within)))
+    (subst (λ ws. CanGive (after o (take i o.wires)) (get_or ws i none)) (sym same) (can_give c.every_reached_state_is_sound.ensures.reached o c.requires (take i o.wires) (get_or o.wires i none) (drop (i + 1) o.wires) (split_at o.wires i none is_within)))
 
 pub loop-wire-preserved : goal.loop-wire-preserved
 loop-wire-preserved g c =

@@ -3,7 +3,7 @@ use Rattle.std.specs.List.{All}
 use native.Mathlib.Omega.{arith}
 use Rattle.b1_model.specs.MachineStep.{peers_before}
 use Rattle.b1_peer.specs.Seen.{PeerSeen}
-use Rattle.b1_core.specs.Events.{HasUsers}
+use Rattle.b1_event.specs.Events.{HasUsers}
 use Rattle.b1_core.proofs.Openings.{take_all, count_before, map_more, all_more, peer_more}
 use Rattle.b1_core.proofs.making.peers_before.Goals as goal
 

@@ -2,7 +2,7 @@
 use Rattle.std.proofs.Common.{◌≡◌, map, take}
 use Rattle.std.specs.List.{All}
 use Rattle.b1_model.specs.MachineStep.{peers_before}
-use Rattle.b1_core.specs.Events.{HasUsers}
+use Rattle.b1_event.specs.Events.{HasUsers}
 use Rattle.b1_core.proofs.making.peers_before.Given as goal
 
 abbrev pub invariant-loop-me : goal.invariant-loop-me

@@ -4,7 +4,7 @@ use Rattle.b1_model.specs.MachineDriver.{next_action, peer_of}
 use Rattle.b1_core.specs.Turns.{StandsBehind}
 use Rattle.b1_core.specs.Bus.{state_of, AreStocked, IsStep}
 use Rattle.b1_core.proofs.Buses.{part_is}
-use Rattle.b1_core.proofs.Turning.{read_at, as_many_drivers, stock_at, number, at_within, allowed, users, stock, found, is_step, still_stocked, same_set}
+use Rattle.b1_core.proofs.Turning.{read_at, as_many_drivers, short, stock_at, number, at_within, allowed, users, stock, found, is_step, still_stocked, same_set}
 use Rattle.b1_core.proofs.stepping.turn.Goals as goal
 
 pub index_mut-driver-requires : goal.index_mut-driver-requires
@@ -71,14 +71,14 @@ index_mut-peer-requires g c =
     let d = c.index_mut-driver.result.now in
     let many = as_many_drivers o xs ds opening reached stocked in
     let is_driver = read_at ds p d (omega (arith, many, c.requires.peer)) c.index_mut-driver.ensures.value in
-    let sound = c.reached_states_bear_events.ensures o (state_of xs ds) opening reached in
+    let bears = c.reached_states_bear_events.ensures o (state_of xs ds) opening reached (short o xs ds opening reached stocked) in
     let e = c.begin.new.driver in
     let is_begun = c.in_ok-begin.ensures.begun in
     let doomed = c.begin.ensures.doomed in
     let here = c.begin.ensures.here in
     let few = c.begin.ensures.few in
-    let place_is = c.place_of-at.ensures ∙ ap (peer_of p) c.next.ensures in
-    let within = at_within o xs ds opening reached stocked sound p d is_driver c.args.command e is_begun doomed here few in
+    let place_is = c.place_of-at.ensures ∙ ap (peer_of p) c.next.ensures.action in
+    let within = at_within o xs ds opening reached stocked bears p d is_driver c.args.command e is_begun doomed here few in
     omega (arith, within, place_is, c.args.peers.now.ok.0)
 
 pub do_event-requires-clause-allowed : goal.do_event-requires-clause-allowed
@@ -93,17 +93,17 @@ do_event-requires-clause-allowed g c =
     let d = c.index_mut-driver.result.now in
     let many = as_many_drivers o xs ds opening reached stocked in
     let is_driver = read_at ds p d (omega (arith, many, c.requires.peer)) c.index_mut-driver.ensures.value in
-    let sound = c.reached_states_bear_events.ensures o (state_of xs ds) opening reached in
+    let bears = c.reached_states_bear_events.ensures o (state_of xs ds) opening reached (short o xs ds opening reached stocked) in
     let e = c.begin.new.driver in
     let is_begun = c.in_ok-begin.ensures.begun in
     let doomed = c.begin.ensures.doomed in
     let here = c.begin.ensures.here in
     let few = c.begin.ensures.few in
-    let place_is = c.place_of-at.ensures ∙ ap (peer_of p) c.next.ensures in
-    let within = at_within o xs ds opening reached stocked sound p d is_driver c.args.command e is_begun doomed here few in
+    let place_is = c.place_of-at.ensures ∙ ap (peer_of p) c.next.ensures.action in
+    let within = at_within o xs ds opening reached stocked bears p d is_driver c.args.command e is_begun doomed here few in
     let x = c.index_mut-peer.result.now in
     let is_peer = subst (λ n. slice_get xs n ≡ Some x) place_is (read_at xs c.place_of-at.result x (omega (arith, within, place_is)) c.index_mut-peer.ensures.value) in
-    allowed o xs ds opening reached stocked sound p d is_driver c.args.command e is_begun doomed here few x is_peer c.facts.ensures.ok
+    allowed o xs ds opening reached stocked bears p d is_driver c.args.command e is_begun doomed here few x is_peer c.facts.ensures.ok
 
 pub do_event-requires-clause-stock : goal.do_event-requires-clause-stock
 do_event-requires-clause-stock g c =
@@ -117,17 +117,17 @@ do_event-requires-clause-stock g c =
     let d = c.index_mut-driver.result.now in
     let many = as_many_drivers o xs ds opening reached stocked in
     let is_driver = read_at ds p d (omega (arith, many, c.requires.peer)) c.index_mut-driver.ensures.value in
-    let sound = c.reached_states_bear_events.ensures o (state_of xs ds) opening reached in
+    let bears = c.reached_states_bear_events.ensures o (state_of xs ds) opening reached (short o xs ds opening reached stocked) in
     let e = c.begin.new.driver in
     let is_begun = c.in_ok-begin.ensures.begun in
     let doomed = c.begin.ensures.doomed in
     let here = c.begin.ensures.here in
     let few = c.begin.ensures.few in
-    let place_is = c.place_of-at.ensures ∙ ap (peer_of p) c.next.ensures in
-    let within = at_within o xs ds opening reached stocked sound p d is_driver c.args.command e is_begun doomed here few in
+    let place_is = c.place_of-at.ensures ∙ ap (peer_of p) c.next.ensures.action in
+    let within = at_within o xs ds opening reached stocked bears p d is_driver c.args.command e is_begun doomed here few in
     let x = c.index_mut-peer.result.now in
     let is_peer = subst (λ n. slice_get xs n ≡ Some x) place_is (read_at xs c.place_of-at.result x (omega (arith, within, place_is)) c.index_mut-peer.ensures.value) in
-    stock o xs ds opening reached stocked sound p d is_driver c.args.command e is_begun doomed here few x is_peer
+    stock o xs ds opening reached stocked bears p d is_driver c.args.command e is_begun doomed here few x is_peer
 
 pub do_event-requires-clause-known : goal.do_event-requires-clause-known
 do_event-requires-clause-known g c =
@@ -141,15 +141,15 @@ do_event-requires-clause-known g c =
     let d = c.index_mut-driver.result.now in
     let many = as_many_drivers o xs ds opening reached stocked in
     let is_driver = read_at ds p d (omega (arith, many, c.requires.peer)) c.index_mut-driver.ensures.value in
-    let sound = c.reached_states_bear_events.ensures o (state_of xs ds) opening reached in
+    let bears = c.reached_states_bear_events.ensures o (state_of xs ds) opening reached (short o xs ds opening reached stocked) in
     let e = c.begin.new.driver in
     let is_begun = c.in_ok-begin.ensures.begun in
     let doomed = c.begin.ensures.doomed in
     let here = c.begin.ensures.here in
     let few = c.begin.ensures.few in
-    let place_is = c.place_of-at.ensures ∙ ap (peer_of p) c.next.ensures in
-    let within = at_within o xs ds opening reached stocked sound p d is_driver c.args.command e is_begun doomed here few in
-    let k = number o xs ds opening reached stocked sound p d is_driver c.args.command e is_begun doomed here few in
+    let place_is = c.place_of-at.ensures ∙ ap (peer_of p) c.next.ensures.action in
+    let within = at_within o xs ds opening reached stocked bears p d is_driver c.args.command e is_begun doomed here few in
+    let k = number o xs ds opening reached stocked bears p d is_driver c.args.command e is_begun doomed here few in
     omega (arith, k, c.requires.peer)
 
 pub do_event-requires-clause-users : goal.do_event-requires-clause-users
@@ -164,17 +164,17 @@ do_event-requires-clause-users g c =
     let d = c.index_mut-driver.result.now in
     let many = as_many_drivers o xs ds opening reached stocked in
     let is_driver = read_at ds p d (omega (arith, many, c.requires.peer)) c.index_mut-driver.ensures.value in
-    let sound = c.reached_states_bear_events.ensures o (state_of xs ds) opening reached in
+    let bears = c.reached_states_bear_events.ensures o (state_of xs ds) opening reached (short o xs ds opening reached stocked) in
     let e = c.begin.new.driver in
     let is_begun = c.in_ok-begin.ensures.begun in
     let doomed = c.begin.ensures.doomed in
     let here = c.begin.ensures.here in
     let few = c.begin.ensures.few in
-    let place_is = c.place_of-at.ensures ∙ ap (peer_of p) c.next.ensures in
-    let within = at_within o xs ds opening reached stocked sound p d is_driver c.args.command e is_begun doomed here few in
+    let place_is = c.place_of-at.ensures ∙ ap (peer_of p) c.next.ensures.action in
+    let within = at_within o xs ds opening reached stocked bears p d is_driver c.args.command e is_begun doomed here few in
     let x = c.index_mut-peer.result.now in
     let is_peer = subst (λ n. slice_get xs n ≡ Some x) place_is (read_at xs c.place_of-at.result x (omega (arith, within, place_is)) c.index_mut-peer.ensures.value) in
-    users o xs ds opening reached stocked sound p d is_driver c.args.command e is_begun doomed here few x is_peer
+    users o xs ds opening reached stocked bears p d is_driver c.args.command e is_begun doomed here few x is_peer
 
 pub turn_after-requires : goal.turn_after-requires
 turn_after-requires g c =
@@ -188,17 +188,17 @@ turn_after-requires g c =
     let d = c.index_mut-driver.result.now in
     let many = as_many_drivers o xs ds opening reached stocked in
     let is_driver = read_at ds p d (omega (arith, many, c.requires.peer)) c.index_mut-driver.ensures.value in
-    let sound = c.reached_states_bear_events.ensures o (state_of xs ds) opening reached in
+    let bears = c.reached_states_bear_events.ensures o (state_of xs ds) opening reached (short o xs ds opening reached stocked) in
     let e = c.begin.new.driver in
     let is_begun = c.in_ok-begin.ensures.begun in
     let doomed = c.begin.ensures.doomed in
     let here = c.begin.ensures.here in
     let few = c.begin.ensures.few in
-    let place_is = c.place_of-at.ensures ∙ ap (peer_of p) c.next.ensures in
-    let within = at_within o xs ds opening reached stocked sound p d is_driver c.args.command e is_begun doomed here few in
+    let place_is = c.place_of-at.ensures ∙ ap (peer_of p) c.next.ensures.action in
+    let within = at_within o xs ds opening reached stocked bears p d is_driver c.args.command e is_begun doomed here few in
     let x = c.index_mut-peer.result.now in
     let is_peer = subst (λ n. slice_get xs n ≡ Some x) place_is (read_at xs c.place_of-at.result x (omega (arith, within, place_is)) c.index_mut-peer.ensures.value) in
-    λ closed as_many. found o xs ds opening reached stocked sound p d is_driver c.args.command e is_begun doomed here few x is_peer c.do_event.new.driver c.do_event.new.peer c.do_event.ensures closed (as_many ∙ ap length c.calls-calls.ensures)
+    λ closed as_many. found o xs ds opening reached stocked bears p d is_driver c.args.command e is_begun doomed here few x is_peer c.do_event.new.driver c.do_event.new.at c.do_event.ensures closed (as_many ∙ ap length c.calls-calls.ensures)
 
 pub returns-clause-step : goal.returns-clause-step
 returns-clause-step g c =
@@ -212,19 +212,19 @@ returns-clause-step g c =
     let d = c.index_mut-driver.result.now in
     let many = as_many_drivers o xs ds opening reached stocked in
     let is_driver = read_at ds p d (omega (arith, many, c.requires.peer)) c.index_mut-driver.ensures.value in
-    let sound = c.reached_states_bear_events.ensures o (state_of xs ds) opening reached in
+    let bears = c.reached_states_bear_events.ensures o (state_of xs ds) opening reached (short o xs ds opening reached stocked) in
     let e = c.begin.new.driver in
     let is_begun = c.in_ok-begin.ensures.begun in
     let doomed = c.begin.ensures.doomed in
     let here = c.begin.ensures.here in
     let few = c.begin.ensures.few in
-    let place_is = c.place_of-at.ensures ∙ ap (peer_of p) c.next.ensures in
-    let within = at_within o xs ds opening reached stocked sound p d is_driver c.args.command e is_begun doomed here few in
+    let place_is = c.place_of-at.ensures ∙ ap (peer_of p) c.next.ensures.action in
+    let within = at_within o xs ds opening reached stocked bears p d is_driver c.args.command e is_begun doomed here few in
     let x = c.index_mut-peer.result.now in
     let is_peer = subst (λ n. slice_get xs n ≡ Some x) place_is (read_at xs c.place_of-at.result x (omega (arith, within, place_is)) c.index_mut-peer.ensures.value) in
     let behind = subst (λ l. StandsBehind (length l) c.turn_after.result c.do_event.new.driver.part) c.calls-calls.ensures c.turn_after.ensures in
-    subst (λ n. IsStep o (state_of xs ds) p c.args.command c.turn_after.result (state_of (set xs n c.do_event.new.peer) (set ds p c.do_event.new.driver))) (sym place_is)
-    (is_step o xs ds opening reached stocked sound p d is_driver c.args.command e is_begun doomed here few x is_peer c.do_event.new.driver c.do_event.new.peer c.do_event.ensures c.turn_after.result behind)
+    subst (λ n. IsStep o (state_of xs ds) p c.args.command c.turn_after.result (state_of (set xs n c.do_event.new.at) (set ds p c.do_event.new.driver))) (sym place_is)
+    (is_step o xs ds opening reached stocked bears p d is_driver c.args.command e is_begun doomed here few x is_peer c.do_event.new.driver c.do_event.new.at c.do_event.ensures c.turn_after.result behind)
 
 pub returns-clause-stocked : goal.returns-clause-stocked
 returns-clause-stocked g c =
@@ -238,15 +238,15 @@ returns-clause-stocked g c =
     let d = c.index_mut-driver.result.now in
     let many = as_many_drivers o xs ds opening reached stocked in
     let is_driver = read_at ds p d (omega (arith, many, c.requires.peer)) c.index_mut-driver.ensures.value in
-    let sound = c.reached_states_bear_events.ensures o (state_of xs ds) opening reached in
+    let bears = c.reached_states_bear_events.ensures o (state_of xs ds) opening reached (short o xs ds opening reached stocked) in
     let e = c.begin.new.driver in
     let is_begun = c.in_ok-begin.ensures.begun in
     let doomed = c.begin.ensures.doomed in
     let here = c.begin.ensures.here in
     let few = c.begin.ensures.few in
-    let place_is = c.place_of-at.ensures ∙ ap (peer_of p) c.next.ensures in
-    let within = at_within o xs ds opening reached stocked sound p d is_driver c.args.command e is_begun doomed here few in
+    let place_is = c.place_of-at.ensures ∙ ap (peer_of p) c.next.ensures.action in
+    let within = at_within o xs ds opening reached stocked bears p d is_driver c.args.command e is_begun doomed here few in
     let x = c.index_mut-peer.result.now in
     let is_peer = subst (λ n. slice_get xs n ≡ Some x) place_is (read_at xs c.place_of-at.result x (omega (arith, within, place_is)) c.index_mut-peer.ensures.value) in
-    subst (λ n. AreStocked o (set xs n c.do_event.new.peer) (set ds p c.do_event.new.driver)) (sym place_is)
-    (still_stocked o xs ds opening reached stocked sound p d is_driver c.args.command e is_begun doomed here few x is_peer c.do_event.new.driver c.do_event.new.peer c.do_event.ensures)
+    subst (λ n. AreStocked o (set xs n c.do_event.new.at) (set ds p c.do_event.new.driver)) (sym place_is)
+    (still_stocked o xs ds opening reached stocked bears p d is_driver c.args.command e is_begun doomed here few x is_peer c.do_event.new.driver c.do_event.new.at c.do_event.ensures)

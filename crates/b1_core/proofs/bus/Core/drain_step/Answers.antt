@@ -1,14 +1,14 @@
-use Rattle.std.proofs.Common.{◌≡◌, ◌∙◌, refl, sym, ap, subst, List, length, not, is_none, Ok, Err, Result}
+use Rattle.std.proofs.Common.{◌≡◌, ◌∙◌, false, refl, sym, ap, subst, List, length, not, is_none, Ok, Err, Result}
 use Rattle.std.specs.Prelude.{IfOk, OnErr}
 use native.Mathlib.Omega.{arith}
 use Rattle.b1_model.specs.declared.naming.Opening.{Opening}
 use Rattle.b1_model.specs.declared.commands.Command.{Command}
 use Rattle.b1_peer.specs.Seen.{PeerSeen}
 use Rattle.b1_driver.specs.Parts.{Driver}
-use Rattle.b1_core.specs.Turns.{Bus, drained, Drains}
+use Rattle.b1_core.specs.Turns.{Bus, drained, has_open, Drains}
 use Rattle.b1_core.specs.Bus.{state_of}
 use Rattle.b1_core.proofs.Turning.{as_many_drivers, as_many_peers}
-use Rattle.b1_core.proofs.Buses.{part_is, core_tried, drains_tried, drain_begins}
+use Rattle.b1_core.proofs.Buses.{part_is, closed_tried, core_tried, drains_tried, drain_begins}
 use Rattle.b1_core.proofs.bus.Core.drain_step.Goals as goal
 
 pub index-requires : goal.index-requires
@@ -83,3 +83,18 @@ kept o lists xs ys ds es b (Err e) is peers drivers = ap (λ l. bus_of o lists l
 
 pub returns-clause-err : goal.returns-clause-err
 returns-clause-err g c = kept c.self.inside.opening c.self.inside.commands c.self.inside.peers.items c.turn.new.peers.items c.self.inside.drivers.items c.turn.new.drivers.items c.args.self.now c.turn.result c.self.view_is c.turn.ensures.peers c.turn.ensures.drivers
+
+pub returns-clause-closed : goal.returns-clause-closed
+returns-clause-closed g c =
+    let o = c.self.inside.opening in
+    let lists = c.self.inside.commands in
+    let xs = c.self.inside.peers.items in
+    let ds = c.self.inside.drivers.items in
+    let p = c.args.p in
+    let core = c.self.invariant.core in
+    let many = as_many_drivers o xs ds core.opening core.reached core.stocked in
+    let same = ap (λ (b : Bus). length b.opening.peers) c.self.view_is in
+    let d = c.index.result.now in
+    let here = part_is ds p d (omega (arith, many, same, c.requires.peer)) c.index.ensures in
+    let old : Bus = record { opening = o; commands = lists; state = state_of xs ds } in
+    subst (λ b. OnErr c.turn.result (has_open b p ≡ false)) c.self.view_is (closed_tried old p c.drain_command-command.result c.turn.result c.turn.ensures.closed (ap (λ r. is_none r) c.drain_command-command.ensures ∙ drain_begins d.part ∙ ap (λ f. not (is_none f.doing)) (sym here)))
