@@ -1,5 +1,5 @@
 mod Rows
-pub mod PeerLemmas
 mod StableSort
 mod BusOrder
+mod PeerLemmas
 pub mod Pools

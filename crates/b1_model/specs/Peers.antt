@@ -1,12 +1,12 @@
--- What is true of every set of peers.
-use Rattle.std.specs.Prelude.{ℕ, ◌+◌, ◌<◌, ◌≤◌, List, [], ◌∷◌}
-use Rattle.b1_model.specs.declared.limits.TheConstants.{MOST_PEERS}
+-- The peers of a set, by the bits of its words.
+use Rattle.std.specs.Prelude.{ℕ, ◌/◌, ◌%◌, ◌==◌, Bool, List, get_or}
+use Rattle.std.specs.List.{filter, range_with_len}
+use Rattle.std.specs.Int.{bit_at}
 
--- peers in rising order, none below the least, and each a peer that a bus can have
-abbrev pub RisesFrom : ℕ → List ℕ → Type 0
-RisesFrom least [] = Unit {0}
-RisesFrom least (peer ∷ rest) = (least ≤ peer) × (peer < MOST_PEERS) × RisesFrom (peer + 1) rest
+-- a peer's bit is set: bit `peer % 64` of word `peer / 64`
+abbrev pub has_peer : List ℕ → ℕ → Bool
+has_peer words peer = bit_at (get_or words (peer / 64) 0) (peer % 64) == 1
 
--- peers in rising order, each a peer that a bus can have
-abbrev pub IsPeerSet : List ℕ → Type 0
-IsPeerSet peers = RisesFrom 0 peers
+-- the peers below a number whose bits are set
+unfoldable pub peers_below : ℕ → List ℕ → List ℕ
+peers_below most words = filter (has_peer words) (range_with_len 0 most)

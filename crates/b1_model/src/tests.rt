@@ -68,7 +68,11 @@ fn peers_in_rising_order(rt: HostRuntime) -> Result<(), Fail> {
     peers.insert(63);
     peers.insert(0);
     peers.insert(5);
-    assert_eq!(rt; peers.as_slice(), [0, 5, 63].as_slice());
+    peers.insert(700);
+    assert_eq!(rt; peers.len(), 4);
+    assert_eq!(rt; peers.get(1), Some(5));
+    assert_eq!(rt; peers.get(3), Some(700));
+    assert_eq!(rt; peers.get(4), None);
     assert_eq!(rt; peers.take_first(), Some(0));
     assert_eq!(rt; peers.first(), Some(5));
     assert!(rt; peers.contains(63));
