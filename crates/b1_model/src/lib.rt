@@ -24,8 +24,9 @@ pub use entries::{Charge, Entry};
 pub use events::{Action, Destruction, Doing, Outcome, OwedDrop, Phase, Sending, SlotLists};
 pub use held::Held;
 pub use limits::{
-    CLOCK_LIMIT, INVALID, MOST_BYTES, MOST_CHECKED, MOST_DESTINATIONS, MOST_FILE_PEERS, MOST_HANDLES, MOST_NUMBERS, MOST_PAYLOAD,
-    MOST_PEERS, MOST_POOL, MOST_POOLS, MOST_SCRIPT, MOST_TEXT, NO_ORIGIN, WIRE_LIMIT,
+    CLOCK_LIMIT, INVALID, MOST_BYTES, MOST_CHECKED, MOST_DESTINATIONS, MOST_FILE_PEERS,
+    MOST_HANDLES, MOST_NUMBERS, MOST_PAYLOAD, MOST_PEERS, MOST_POOL, MOST_POOLS, MOST_SCRIPT,
+    MOST_TEXT, NO_ORIGIN, WIRE_LIMIT,
 };
 pub use lists::{Bytes, Items, Nums, Nums32};
 pub use naming::{Key, Limits, NodeRef, Opening, PeerSpec, Peers, Wire, Wires, key_cmp};

@@ -72,6 +72,9 @@ fn no_words(rt: HostRuntime) -> Result<(), Fail> {
     let mut sink = MemSink::make(alloc, 64, 64, Vec::new(alloc))?;
     let status = top(alloc, &Vec::new(alloc), &mut source, &mut sink);
     assert_eq!(rt; status, 1);
-    assert_eq!(rt; sink.taken(), b"usage: bus1sh play|run|asm|dump|check|soak N\n".as_slice());
+    assert_eq!(rt;
+        sink.taken(),
+        b"usage: bus1sh play|run|asm|dump|check|soak N\n".as_slice()
+    );
     Ok(())
 }

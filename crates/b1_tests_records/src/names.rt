@@ -1,6 +1,6 @@
 use b1_model::{
-    Answer, Call, Calls, Command, Limits, Nums, Opening, PeerCalls, PeerLists, PeerSet, PeerSpec, Peers, Reason, Record, Wire, Wires,
-    errno, order_of, valid_opening,
+    Answer, Call, Calls, Command, Limits, Nums, Opening, PeerCalls, PeerLists, PeerSet, PeerSpec,
+    Peers, Reason, Record, Wire, Wires, errno, order_of, valid_opening,
 };
 use std::alloc::{AllocError, Global};
 use std::test::Fail;
