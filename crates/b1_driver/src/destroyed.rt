@@ -107,7 +107,11 @@ pub fn sync_answered(stage: Stage) -> After
                 stamp,
                 place,
             },
-        ) => After::Goes(Stage::Destroying(syncing_notices(visits, stamp, place + 1))),
+        ) => {
+            let peers = visits.staged.len();
+            prove!(place < peers);
+            After::Goes(Stage::Destroying(syncing_notices(visits, stamp, place + 1)))
+        }
         stage => After::Goes(stage),
     }
 }
@@ -129,7 +133,11 @@ pub fn commit_notices_answered(command: &Command, stage: Stage) -> After
                 stamp,
                 place,
             },
-        ) => committing_notices(command, visits, stamp, place + 1),
+        ) => {
+            let peers = visits.staged.len();
+            prove!(place < peers);
+            committing_notices(command, visits, stamp, place + 1)
+        }
         stage => After::Goes(stage),
     }
 }
