@@ -56,13 +56,13 @@ fn ample(user: u32) -> PeerSpec {
     }
 }
 
-// As many peers as a bus has, each a user of its own, of which the first holds a node of the last.
+// As many peers as a bus has, of eight users; the first peer holds a node of the last.
 pub fn most_peers(alloc: Global) -> Result<Opening, AllocError> {
     let count = MOST_PEERS as u32;
     let mut peers = Vec::new(alloc);
-    for user in 0..count {
+    for peer in 0..count {
         peers.push(PeerSpec {
-            user,
+            user: peer % 8,
             pool: 8,
             limits: Limits {
                 entries: 2,
