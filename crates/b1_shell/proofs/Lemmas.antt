@@ -12,19 +12,19 @@ use Rattle.b1_io.specs.Whole.{OnLong}
 use Rattle.b1_report.specs.Parsing as reports
 use Rattle.b1_script.specs.declared.script.Script.{Script}
 use Rattle.b1_script.specs.Reading.{bad, whole_at}
-use Rattle.b1_script.specs.Spelling.{most_script, IsScript}
+use Rattle.b1_script.specs.Spelling.{IsScript}
 use Rattle.b1_shell.specs.declared.Said.{Said}
 use Rattle.b1_shell.specs.declared.Said.TheVariants.{Bad}
 use Rattle.b1_shell.specs.declared.forms.Form.{Form}
 use Rattle.b1_shell.specs.declared.forms.Form.TheVariants.{Play, Asm, Dump, Check}
 use Rattle.b1_shell.specs.Answers.{Says, IsSaid, TookPart}
 use Rattle.b1_shell.specs.Faults.{IsFault, long, report}
-use Rattle.b1_model.specs.declared.limits.TheConstants.{MOST_CHECKED}
+use Rattle.b1_model.specs.declared.limits.TheConstants.{MOST_CHECKED, MOST_SCRIPT}
 use Rattle.b1_shell.specs.Forms.{most_input}
 use Rattle.b1_shell.specs.Texts.{bad_line}
 
 -- too many bytes are the first fault
-pub long_is_bad : (bytes : List ℕ) → most_script < length bytes → bad bytes ≡ Some (most_script, causes.Long)
+pub long_is_bad : (bytes : List ℕ) → MOST_SCRIPT < length bytes → bad bytes ≡ Some (MOST_SCRIPT, causes.Long)
 unfolding whole_at
 long_is_bad bytes h = rw (lt-ltb _ _ h) refl
 
