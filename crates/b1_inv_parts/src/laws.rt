@@ -5,11 +5,17 @@ ghost use Rattle.b1_model.specs.Opening.{IsOpening};
 ghost use Rattle.b1_model.specs.MachineParts.{State};
 ghost use Rattle.b1_model.specs.MachineStep.{Step, opening_state};
 ghost use Rattle.b1_inv.specs.Sound.{IsSound};
-ghost use Rattle.b1_inv_record.specs.Parts.{SerialsMade};
+ghost use Rattle.b1_inv_record.specs.Parts.{RecordsNeeded, SerialsMade};
 ghost use Rattle.b1_inv_record.specs.Right.{IsRight};
 
 /// A step keeps the entries of every queue for nodes that were made, and every bus begins so.
 pub fn serials_stay_made()
     ensures opening_SerialsMade { (o : Opening) → IsOpening o → SerialsMade (opening_state o) }
     ensures kept_SerialsMade { (o : Opening) (s : State) (p : ℕ) (c : Option Command) (t : State) → IsSound o s → IsRight o s → Step o s p c t → SerialsMade t }
+{}
+
+/// A step keeps no record that isn't needed, and no bus begins with one.
+pub fn records_stay_needed()
+    ensures opening_RecordsNeeded { (o : Opening) → IsOpening o → RecordsNeeded (opening_state o) }
+    ensures kept_RecordsNeeded { (o : Opening) (s : State) (p : ℕ) (c : Option Command) (t : State) → IsSound o s → IsRight o s → Step o s p c t → RecordsNeeded t }
 {}

@@ -3,4 +3,4 @@
 
 mod laws;
 
-pub use laws::serials_stay_made;
+pub use laws::{records_stay_needed, serials_stay_made};
