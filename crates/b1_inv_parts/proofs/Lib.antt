@@ -1,3 +1,5 @@
 pub mod Lifting
 pub mod Serials
 pub mod Records
+pub mod Releases
+pub mod ReleasesKept

@@ -5,7 +5,7 @@ ghost use Rattle.b1_model.specs.Opening.{IsOpening};
 ghost use Rattle.b1_model.specs.MachineParts.{State};
 ghost use Rattle.b1_model.specs.MachineStep.{Step, opening_state};
 ghost use Rattle.b1_inv.specs.Sound.{IsSound};
-ghost use Rattle.b1_inv_record.specs.Parts.{RecordsNeeded, SerialsMade};
+ghost use Rattle.b1_inv_record.specs.Parts.{RecordsNeeded, ReleaseNoticesRight, SerialsMade};
 ghost use Rattle.b1_inv_record.specs.Right.{IsRight};
 
 /// A step keeps the entries of every queue for nodes that were made, and every bus begins so.
@@ -18,4 +18,11 @@ pub fn serials_stay_made()
 pub fn records_stay_needed()
     ensures opening_RecordsNeeded { (o : Opening) → IsOpening o → RecordsNeeded (opening_state o) }
     ensures kept_RecordsNeeded { (o : Opening) (s : State) (p : ℕ) (c : Option Command) (t : State) → IsSound o s → IsRight o s → Step o s p c t → RecordsNeeded t }
+{}
+
+/// A step keeps release notices of live nodes that nobody has a reference to, one of a node at most, and every bus
+/// begins so.
+pub fn release_notices_stay_right()
+    ensures opening_ReleaseNoticesRight { (o : Opening) → IsOpening o → ReleaseNoticesRight (opening_state o) }
+    ensures kept_ReleaseNoticesRight { (o : Opening) (s : State) (p : ℕ) (c : Option Command) (t : State) → IsSound o s → IsRight o s → Step o s p c t → ReleaseNoticesRight t }
 {}
