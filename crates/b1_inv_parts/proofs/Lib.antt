@@ -3,3 +3,6 @@ pub mod Serials
 pub mod Records
 pub mod Releases
 pub mod ReleasesKept
+pub mod Walk
+pub mod Marks
+pub mod MarksKept

@@ -5,7 +5,7 @@ ghost use Rattle.b1_model.specs.Opening.{IsOpening};
 ghost use Rattle.b1_model.specs.MachineParts.{State};
 ghost use Rattle.b1_model.specs.MachineStep.{Step, opening_state};
 ghost use Rattle.b1_inv.specs.Sound.{IsSound};
-ghost use Rattle.b1_inv_record.specs.Parts.{RecordsNeeded, ReleaseNoticesRight, SerialsMade};
+ghost use Rattle.b1_inv_record.specs.Parts.{MarksRight, RecordsNeeded, ReleaseNoticesRight, SerialsMade};
 ghost use Rattle.b1_inv_record.specs.Right.{IsRight};
 
 /// A step keeps the entries of every queue for nodes that were made, and every bus begins so.
@@ -25,4 +25,10 @@ pub fn records_stay_needed()
 pub fn release_notices_stay_right()
     ensures opening_ReleaseNoticesRight { (o : Opening) → IsOpening o → ReleaseNoticesRight (opening_state o) }
     ensures kept_ReleaseNoticesRight { (o : Opening) (s : State) (p : ℕ) (c : Option Command) (t : State) → IsSound o s → IsRight o s → Step o s p c t → ReleaseNoticesRight t }
+{}
+
+/// A step keeps a record marked exactly where its node's notice is queued, once, and every bus begins so.
+pub fn marks_stay_right()
+    ensures opening_MarksRight { (o : Opening) → IsOpening o → MarksRight (opening_state o) }
+    ensures kept_MarksRight { (o : Opening) (s : State) (p : ℕ) (c : Option Command) (t : State) → IsSound o s → IsRight o s → Step o s p c t → MarksRight t }
 {}
