@@ -6,3 +6,4 @@ pub mod ReleasesKept
 pub mod Walk
 pub mod Marks
 pub mod MarksKept
+pub mod Slices
