@@ -7,3 +7,5 @@ pub mod Walk
 pub mod Marks
 pub mod MarksKept
 pub mod Slices
+pub mod Pools
+pub mod PoolsKept
