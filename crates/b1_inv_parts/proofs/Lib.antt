@@ -9,3 +9,4 @@ pub mod MarksKept
 pub mod Slices
 pub mod Pools
 pub mod PoolsKept
+pub mod Keys
