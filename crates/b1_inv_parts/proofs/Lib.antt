@@ -10,3 +10,4 @@ pub mod Slices
 pub mod Pools
 pub mod PoolsKept
 pub mod Keys
+pub mod KeysKept

@@ -91,7 +91,7 @@ notice_for_is node (k, ForeignNotice other index) is = (index, ap (λ n. (k, For
 notice_for_is node (k, ReleaseNotice serial) is = absurd (cc is)
 
 -- a record that is found is there, and is of the node
-record_in : (node : NodeRef) (hs : List HandleRecord) (h : HandleRecord) → record_of node hs ≡ Some h → Has hs h × (h.node ≡ node)
+pub record_in : (node : NodeRef) (hs : List HandleRecord) (h : HandleRecord) → record_of node hs ≡ Some h → Has hs h × (h.node ≡ node)
 record_in node [] h is = absurd (cc is)
 record_in node (g ∷ rest) h is = at (record_in node rest h) (same_ref g.node node) refl is
   where

@@ -5,7 +5,7 @@ ghost use Rattle.b1_model.specs.Opening.{IsOpening};
 ghost use Rattle.b1_model.specs.MachineParts.{State};
 ghost use Rattle.b1_model.specs.MachineStep.{Step, opening_state};
 ghost use Rattle.b1_inv.specs.Sound.{IsSound};
-ghost use Rattle.b1_inv_record.specs.Parts.{MarksRight, PoolRight, RecordsNeeded, ReleaseNoticesRight, SerialsMade};
+ghost use Rattle.b1_inv_record.specs.Parts.{KeysAscend, MarksRight, PoolRight, RecordsNeeded, ReleaseNoticesRight, SerialsMade};
 ghost use Rattle.b1_inv_record.specs.Right.{IsRight};
 
 /// A step keeps the entries of every queue for nodes that were made, and every bus begins so.
@@ -37,4 +37,10 @@ pub fn marks_stay_right()
 pub fn pools_stay_right()
     ensures opening_PoolRight { (o : Opening) → IsOpening o → PoolRight (opening_state o) }
     ensures kept_PoolRight { (o : Opening) (s : State) (p : ℕ) (c : Option Command) (t : State) → IsSound o s → IsRight o s → Step o s p c t → PoolRight t }
+{}
+
+/// A step keeps the keys of every queue ascending, and every bus begins so.
+pub fn keys_stay_ascending()
+    ensures opening_KeysAscend { (o : Opening) → IsOpening o → KeysAscend (opening_state o) }
+    ensures kept_KeysAscend { (o : Opening) (s : State) (p : ℕ) (c : Option Command) (t : State) → IsSound o s → IsRight o s → Step o s p c t → KeysAscend t }
 {}

@@ -3,4 +3,4 @@
 
 mod laws;
 
-pub use laws::{marks_stay_right, pools_stay_right, records_stay_needed, release_notices_stay_right, serials_stay_made};
+pub use laws::{keys_stay_ascending, marks_stay_right, pools_stay_right, records_stay_needed, release_notices_stay_right, serials_stay_made};
