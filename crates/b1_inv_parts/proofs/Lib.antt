@@ -11,3 +11,4 @@ pub mod Pools
 pub mod PoolsKept
 pub mod Keys
 pub mod KeysKept
+pub mod Kept

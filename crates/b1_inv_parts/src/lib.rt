@@ -1,6 +1,7 @@
-//! What is always so of a single peer's part, over every list of steps.
+//! What is always so of a single peer's part, over every list of steps: its queue, its nodes, its slices and its handle
+//! records by themselves.
 #![tactic(auto)]
 
 mod laws;
 
-pub use laws::{keys_stay_ascending, marks_stay_right, pools_stay_right, records_stay_needed, release_notices_stay_right, serials_stay_made};
+pub use laws::parts_stay_right;
