@@ -1,5 +1,5 @@
 -- The keys of a queue go on ascending through one event, where those that come are new.
-use Rattle.std.proofs.Common.{◌≡◌, ◌≢◌, ◌⊎◌, refl, sym, ap, ◌∙◌, inl, inr, subst, arith, ℕ, zero, suc, ◌+◌, ◌≤◌, max, Bool, true, false, cond, not, List, [], ◌∷◌, map, filter, drop, length, Option, Some, None}
+use Rattle.std.proofs.Common.{◌≡◌, ◌⊎◌, refl, sym, ap, ◌∙◌, inl, inr, subst, arith, ℕ, zero, suc, ◌+◌, ◌≤◌, max, Bool, true, false, cond, List, [], ◌∷◌, map, filter, drop, Option, Some, None}
 use Rattle.std.specs.Prelude.{⊤, slice_get}
 use Rattle.b1_model.specs.declared.naming.Key.{Key}
 use Rattle.b1_model.specs.declared.naming.NodeRef.{NodeRef}
@@ -13,8 +13,8 @@ use Rattle.b1_model.specs.declared.entries.Entry.TheVariants.{OwnNotice, Foreign
 use Rattle.b1_model.specs.declared.events.Action.{Action}
 use Rattle.b1_model.specs.declared.events.Action.TheVariants as act
 use Rattle.b1_model.specs.declared.events.Doing.{Doing}
-use Rattle.b1_model.specs.MachineParts.{PeerPart, DriverPart, HandleRecord, no_origin, is_release_notice, key_before, record_of}
-use Rattle.b1_model.specs.MachineTables.{put, put_all, without, is_stage, is_staged_notice, changed, noticed}
+use Rattle.b1_model.specs.MachineParts.{PeerPart, DriverPart, no_origin, is_release_notice, key_before}
+use Rattle.b1_model.specs.MachineTables.{put, put_all, without, is_stage, is_staged_notice}
 use Rattle.b1_model.specs.MachineSend.{find_stage, unstaged_by, attached_by, attach_answer, committed_by, with_slots, with_stamp, notices_committed}
 use Rattle.b1_model.specs.MachineReceive.{with_release_notice, is_released, dropped_refs}
 use Rattle.b1_model.specs.MachineDestroy.{with_own_notices, needs_notice, notice_by, visited_from}

@@ -1,6 +1,6 @@
 -- The keys of every queue go on ascending in every step: each key that comes is new.
-use Rattle.std.proofs.Common.{◌≡◌, ◌≢◌, ◌⊎◌, refl, sym, ap, ◌∙◌, inl, inr, subst, arith, ℕ, zero, suc, ◌+◌, ◌<◌, ◌≤◌, ◌%◌, ◌==◌, max, Bool, true, false, ◌&&◌, if◌then◌else◌, not, List, [], ◌∷◌, get_or, length, Option, Some, None}
-use Rattle.std.specs.Prelude.{⊤, slice_get}
+use Rattle.std.proofs.Common.{◌≡◌, ◌≢◌, ◌⊎◌, refl, sym, ap, ◌∙◌, inl, inr, subst, arith, ℕ, ◌+◌, ◌<◌, ◌≤◌, ◌%◌, ◌==◌, max, Bool, true, false, ◌&&◌, if◌then◌else◌, not, List, [], ◌∷◌, get_or, length, Option, Some, None}
+use Rattle.std.specs.Prelude.{slice_get}
 use Rattle.std.proofs.lemmas.Bool.{eq-eqb, eqb-true, and_parts, not-true}
 use Rattle.std.proofs.lemmas.Option.{same_Some, slice_get_within}
 use Rattle.b1_model.specs.declared.naming.Key.{Key}
@@ -17,7 +17,7 @@ use Rattle.b1_model.specs.declared.events.Doing.{Doing}
 use Rattle.b1_model.specs.declared.events.OwedDrop.{OwedDrop}
 use Rattle.b1_model.specs.declared.events.Phase.{Phase}
 use Rattle.b1_model.specs.declared.events.Phase.TheVariants.{Starting, Staging, Unstaging, Attaching, Stamping, Syncing, Committing, Dropping, Reaping, Visiting, Dooming, SyncingNotices, CommittingOwn, CommittingNotices, Flushing}
-use Rattle.b1_model.specs.MachineParts.{PeerPart, DriverPart, HandleRecord, State, is_data, is_odd, is_staged, no_origin, node_at, record_of, record_or_none}
+use Rattle.b1_model.specs.MachineParts.{DriverPart, HandleRecord, State, is_data, is_odd, is_staged, no_origin, node_at, record_of}
 use Rattle.b1_model.specs.MachineTables.{count_of, is_stage, is_staged_notice, is_unheld}
 use Rattle.b1_model.specs.MachineSend.{find_stage, with_stamp}
 use Rattle.b1_model.specs.MachineDestroy.{needs_notice}
@@ -27,7 +27,7 @@ use Rattle.b1_model.specs.MachineStep.{Step, opening_state}
 use Rattle.b1_step.specs.Rights.{Has}
 use Rattle.b1_step.specs.Ordered.{Ascending, NewKey}
 use Rattle.b1_step.proofs.Orders.{find_has}
-use Rattle.b1_inv.specs.Words.{IsPeer, IsDriver, IsMade, waits_at, phase_uncommitted, is_uncommitted, is_pending, stamp_of_phase, fixed_stamp}
+use Rattle.b1_inv.specs.Words.{IsDriver, IsMade, waits_at, phase_uncommitted, is_uncommitted, is_pending, stamp_of_phase, fixed_stamp}
 use Rattle.b1_inv.specs.Notices.{DestructionShape, doomed_now}
 use Rattle.b1_inv.specs.Stamps.{WasCommitted, IsStampOf, is_committing, is_committing_notices}
 use Rattle.b1_inv.specs.Sound.{IsSound}
@@ -135,8 +135,7 @@ module _ {o : Opening} {s : State} {p : ℕ} {command : Option Command} {t : Sta
       let owner : node.owner ≡ p = sym shape.0 ∙ from in
       let w = shape.3 step.driver (subst (λ n. IsDriver s n step.driver) (sym owner) step.is_driver) staged in
       let phase = uncommitted_phase step.at w.0 in
-      let node_is : node ≡ record { owner = p; serial = node.serial } = ap (λ n. record { owner = n; serial = node.serial }) owner in
-      (
+      let node_is : node ≡ record { owner = p; serial = node.serial } = ap (λ n. record { owner = n; serial = node.serial }) owner in (
         node.serial,
         doomed_is phase.1 key.index node.serial (ap (slice_get (doomed_now step.driver)) shape.1 ∙ w.1),
         phase.0,

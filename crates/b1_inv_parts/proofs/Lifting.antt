@@ -1,5 +1,5 @@
 -- A fact of each peer's part that every event keeps is kept by steps.
-use Rattle.std.proofs.Common.{◌≡◌, sym, ◌∙◌, inl, inr, subst, ℕ, Option}
+use Rattle.std.proofs.Common.{sym, ◌∙◌, inl, inr, subst, ℕ, Option}
 use Rattle.b1_model.specs.declared.naming.Opening.{Opening}
 use Rattle.b1_model.specs.declared.commands.Command.{Command}
 use Rattle.b1_model.specs.MachineParts.{PeerPart, State}

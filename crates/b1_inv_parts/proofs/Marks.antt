@@ -1,6 +1,6 @@
 -- Marks of records through one event: each node has as many queued notices as its record is marked.
-use Rattle.std.proofs.Common.{◌≡◌, ◌≢◌, ◌⊎◌, refl, sym, ap, ◌∙◌, inl, inr, subst, arith, ℕ, ◌+◌, ◌≤◌, ◌==◌, Bool, true, false, cond, ◌&&◌, not, List, [], ◌∷◌, map, filter, fold, zip, Option, Some, None}
-use Rattle.std.proofs.lemmas.Bool.{and_parts, not-true}
+use Rattle.std.proofs.Common.{◌≡◌, ◌⊎◌, refl, sym, ap, ◌∙◌, inl, inr, subst, arith, ℕ, ◌+◌, ◌≤◌, Bool, true, false, cond, not, List, [], ◌∷◌, fold, zip, Option, Some, None}
+use Rattle.std.proofs.lemmas.Bool.{not-true}
 use Rattle.b1_model.specs.declared.naming.Key.{Key}
 use Rattle.b1_model.specs.declared.naming.NodeRef.{NodeRef}
 use Rattle.b1_model.specs.declared.naming.Opening.{Opening}
@@ -15,13 +15,12 @@ use Rattle.b1_model.specs.declared.events.Action.{Action}
 use Rattle.b1_model.specs.declared.events.Action.TheVariants as act
 use Rattle.b1_model.specs.declared.events.Doing.{Doing}
 use Rattle.b1_model.specs.Names.{is_given}
-use Rattle.b1_model.specs.MachineParts.{PeerPart, DriverPart, HandleRecord, same_ref, is_data, is_staged, is_release_notice, record_of, record_or_none, carried}
-use Rattle.b1_model.specs.MachineTables.{put, without, is_needed, is_stage, is_staged_notice, changed, noticed, made_dead, less_flight, less_held, more_held, next_number, foreign, unexpected, held_node}
+use Rattle.b1_model.specs.MachineParts.{PeerPart, DriverPart, HandleRecord, same_ref, is_data, is_release_notice, record_of, record_or_none, carried}
+use Rattle.b1_model.specs.MachineTables.{put, without, is_needed, is_stage, is_staged_notice, changed, noticed, made_dead, less_flight, less_held, more_held, next_number, foreign, held_node}
 use Rattle.b1_model.specs.MachineSend.{find_stage, unstaged_by, attached_by, attach_answer, committed_by, with_slots, with_stamp, notices_committed}
-use Rattle.b1_model.specs.MachineReceive.{Arriving, discarded, reference_by, slot_arrives, taken_entry, received_part, given_up, with_release_notice, is_released, dropped_refs}
+use Rattle.b1_model.specs.MachineReceive.{Arriving, reference_by, slot_arrives, taken_entry, given_up, with_release_notice, is_released, dropped_refs}
 use Rattle.b1_model.specs.MachineDestroy.{with_own_notices, needs_notice, notice_by, visited_from}
 use Rattle.b1_model.specs.MachineEvents.{happens, stage_by, destroy_by, begin_refusal, begin_serials, number_of, doomed_of, slots_at}
-use Rattle.b1_step.specs.Rights.{Has}
 use Rattle.b1_step.specs.Ordered.{Rising}
 use Rattle.b1_step.proofs.Changed.{changes}
 use Rattle.b1_step.proofs.Rises.{rises as records_rise}
@@ -30,7 +29,6 @@ use Rattle.b1_step.proofs.Orders.{same_ref_itself, find_has}
 use Rattle.b1_inv_peer.specs.PeerOk.{count, is_notice_for}
 use Rattle.b1_inv_peer.proofs.Counts.{one, count_cons, count_put, count_without_other, sum_moved}
 use Rattle.b1_inv_peer.proofs.Entries.{notice_for_committed, notice_for_none}
-use Rattle.b1_inv_peer.proofs.CommitEvents.{staged_notice}
 use Rattle.b1_inv_peer.proofs.Clearing.{without_front}
 use Rattle.b1_inv_peer.proofs.RecordFields.{same_or_apart, field_stays, other_record, or_none, unneeded_notice, rising_unexpected, notice_expected, notice_unexpected}
 use Rattle.b1_inv_peer.proofs.RecordLists.{notice_needs}

@@ -1,5 +1,5 @@
 -- Marks of records stay right in every step.
-use Rattle.std.proofs.Common.{◌≡◌, refl, sym, ap, ◌∙◌, inl, inr, subst, arith, ℕ, ◌+◌, ◌≤◌, Bool, true, false, cond, List, [], ◌∷◌, Option, Some, None}
+use Rattle.std.proofs.Common.{◌≡◌, refl, sym, ap, ◌∙◌, inl, inr, subst, arith, ℕ, ◌≤◌, Bool, true, false, cond, List, [], ◌∷◌, Option, Some, None}
 use Rattle.b1_model.specs.declared.naming.Key.{Key}
 use Rattle.b1_model.specs.declared.naming.NodeRef.{NodeRef}
 use Rattle.b1_model.specs.declared.naming.Opening.{Opening}
@@ -7,7 +7,7 @@ use Rattle.b1_model.specs.declared.commands.Command.{Command}
 use Rattle.b1_model.specs.declared.entries.Entry.{Entry}
 use Rattle.b1_model.specs.declared.entries.Entry.TheVariants.{Message, OwnNotice, ForeignNotice, ReleaseNotice}
 use Rattle.b1_model.specs.Names.{is_own}
-use Rattle.b1_model.specs.MachineParts.{PeerPart, HandleRecord, State, same_ref, key_before, record_of, record_or_none}
+use Rattle.b1_model.specs.MachineParts.{PeerPart, HandleRecord, State, same_ref, key_before, record_of}
 use Rattle.b1_model.specs.MachineTables.{more_held, next_number, with_made}
 use Rattle.b1_model.specs.MachineStep.{Step, opening_state, wire_made, wire_held}
 use Rattle.b1_step.specs.Rights.{Has}

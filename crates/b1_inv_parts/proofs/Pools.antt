@@ -1,5 +1,5 @@
 -- Slices and queued messages of one part through one event.
-use Rattle.std.proofs.Common.{◌≡◌, refl, sym, ap, ◌∙◌, inl, inr, subst, arith, ℕ, ◌+◌, ◌≤◌, ◌==◌, Bool, true, false, ◌&&◌, List, [], ◌∷◌, map, filter, fold, zip, length, Option, Some, None}
+use Rattle.std.proofs.Common.{◌≡◌, refl, sym, ap, ◌∙◌, inl, inr, subst, ℕ, ◌+◌, ◌≤◌, Bool, true, false, List, [], ◌∷◌, map, filter, fold, zip, length, Option, Some, None}
 use Rattle.b1_model.specs.declared.naming.Key.{Key}
 use Rattle.b1_model.specs.declared.naming.NodeRef.{NodeRef}
 use Rattle.b1_model.specs.declared.naming.Opening.{Opening}
@@ -16,10 +16,10 @@ use Rattle.b1_model.specs.declared.events.Action.{Action}
 use Rattle.b1_model.specs.declared.events.Action.TheVariants as act
 use Rattle.b1_model.specs.declared.events.Doing.{Doing}
 use Rattle.b1_model.specs.MachineParts.{PeerPart, DriverPart, is_data, is_release_notice, record_or_none}
-use Rattle.b1_model.specs.MachinePool.{slice_len, largest_free, is_received, whole_pool}
+use Rattle.b1_model.specs.MachinePool.{slice_len, largest_free, is_received}
 use Rattle.b1_model.specs.MachineTables.{put, without, is_stage, is_staged_notice, foreign, made_dead}
 use Rattle.b1_model.specs.MachineSend.{first_reason, stage_reasons, stage_refusal, find_stage, unstaged_by, attached_by, attach_answer, committed_by, with_stamp, notices_committed}
-use Rattle.b1_model.specs.MachineReceive.{Arriving, reference_by, slot_arrives, taken_entry, received_part, with_release_notice, is_released, dropped_refs, slice_given_back}
+use Rattle.b1_model.specs.MachineReceive.{Arriving, reference_by, slot_arrives, taken_entry, with_release_notice, is_released, dropped_refs, slice_given_back}
 use Rattle.b1_model.specs.MachineDestroy.{with_own_notices, needs_notice, notice_by, visited_from}
 use Rattle.b1_model.specs.MachineEvents.{happens, stage_by, destroy_by, begin_refusal, begin_serials, doomed_of, slots_at, local_part}
 use Rattle.b1_step.specs.Rights.{Has}
@@ -34,7 +34,6 @@ use Rattle.b1_inv_peer.proofs.Clearing.{without_front}
 use Rattle.b1_inv_peer.proofs.RecordFields.{rising_unexpected}
 use Rattle.b1_inv_refs.proofs.Arrivals.{slot_rising}
 use Rattle.b1_inv_sends.proofs.Once.{notice_is}
-use Rattle.b1_peer_pool.specs.Slices.{IsPool}
 use Rattle.b1_peer_pool.specs.Stored.{full_reason}
 use Rattle.b1_peer_pool.proofs.Fits.{full_reason-none}
 use Rattle.b1_peer_pool.proofs.Laws.{IsPool-whole_pool}

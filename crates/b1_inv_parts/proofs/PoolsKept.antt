@@ -1,10 +1,9 @@
 -- Pools stay covered by their slices, and messages keep theirs, in every step.
-use Rattle.std.proofs.Common.{◌≡◌, refl, sym, ap, ◌∙◌, inl, inr, subst, arith, ℕ, zero, suc, ◌+◌, ◌≤◌, ◌==◌, Bool, true, false, cond, not, List, [], ◌∷◌, Option, Some, None}
+use Rattle.std.proofs.Common.{◌≡◌, refl, sym, ap, ◌∙◌, inl, inr, subst, arith, ℕ, zero, suc, ◌+◌, ◌≤◌, ◌==◌, Bool, true, false, cond, List, [], ◌∷◌, Option, Some, None}
 use Rattle.std.specs.Prelude.{slice_get}
 use Rattle.std.specs.List.{AllByRecursion}
-use Rattle.std.proofs.lemmas.Bool.{eq-eqb, eqb-true, ne_eqb}
+use Rattle.std.proofs.lemmas.Bool.{eq-eqb, ne_eqb}
 use Rattle.std.proofs.lemmas.Option.{same_Some}
-use Rattle.b1_model.specs.declared.naming.Key.{Key}
 use Rattle.b1_model.specs.declared.naming.Opening.{Opening}
 use Rattle.b1_model.specs.declared.naming.PeerSpec.{PeerSpec}
 use Rattle.b1_model.specs.declared.commands.Command.{Command}
@@ -12,8 +11,8 @@ use Rattle.b1_model.specs.declared.entries.Entry.{Entry}
 use Rattle.b1_model.specs.declared.tables.Usage.TheVariants.{Unpublished}
 use Rattle.b1_model.specs.Names.{is_own}
 use Rattle.b1_model.specs.Opening.{HasPool, IsOpening}
-use Rattle.b1_model.specs.MachineParts.{PeerPart, Slice, State, is_data}
-use Rattle.b1_model.specs.MachinePool.{is_free, slice_at, whole_pool}
+use Rattle.b1_model.specs.MachineParts.{PeerPart, Slice, State}
+use Rattle.b1_model.specs.MachinePool.{slice_at, whole_pool}
 use Rattle.b1_model.specs.MachineSend.{offset_of}
 use Rattle.b1_model.specs.MachineTables.{with_made}
 use Rattle.b1_model.specs.MachineStep.{Step, opening_state, wire_made}
@@ -27,8 +26,8 @@ use Rattle.b1_inv_sends.proofs.StagesKept.{opening_queue}
 use Rattle.b1_inv_tools.proofs.Leaves.{step_did}
 use Rattle.b1_inv_tools.proofs.Openings.{opening_each}
 use Rattle.b1_pool.specs.Slices.{IsPoolSize}
-use Rattle.b1_peer_pool.specs.Slices.{is_used, used_at, Spans, IsMerged, IsPool}
-use Rattle.b1_peer_pool.proofs.Found.{slice_at-within, used_at-found, used_at-slice, usage-used}
+use Rattle.b1_peer_pool.specs.Slices.{is_used, used_at, Spans, IsMerged}
+use Rattle.b1_peer_pool.proofs.Found.{used_at-found, used_at-slice, usage-used}
 use Rattle.b1_peer_pool.proofs.Laws.{IsPool-whole_pool}
 use Rattle.b1_inv_parts.proofs.Lifting.{lifted}
 use Rattle.b1_inv_parts.proofs.Slices.{AreSliced, slice_offset, slice_usage, nothing_sliced}

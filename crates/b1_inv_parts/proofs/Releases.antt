@@ -1,7 +1,7 @@
 -- Release notices through one event: of live nodes that nobody has a reference to, one of a node at most.
-use Rattle.std.proofs.Common.{◌≡◌, ◌≢◌, refl, sym, ap, ◌∙◌, inl, inr, subst, arith, ℕ, zero, suc, ◌+◌, ◌<◌, ◌≤◌, ◌==◌, max, Bool, true, false, ◌&&◌, not, List, [], ◌∷◌, fold, zip, filter, length, get_or, Option, Some, None, ◌⊎◌}
-use Rattle.std.specs.Prelude.{⊤, slice_get}
-use Rattle.std.proofs.lemmas.Bool.{cases_eq, eq-eqb, and_parts, not-true}
+use Rattle.std.proofs.Common.{◌≡◌, ◌≢◌, refl, sym, ap, ◌∙◌, inl, inr, subst, arith, ℕ, ◌+◌, ◌<◌, ◌≤◌, ◌==◌, max, Bool, true, false, ◌&&◌, not, List, [], ◌∷◌, fold, zip, filter, length, get_or, Option, Some, None, ◌⊎◌}
+use Rattle.std.specs.Prelude.{⊤}
+use Rattle.std.proofs.lemmas.Bool.{eq-eqb, and_parts}
 use Rattle.b1_model.specs.declared.naming.Key.{Key}
 use Rattle.b1_model.specs.declared.naming.NodeRef.{NodeRef}
 use Rattle.b1_model.specs.declared.naming.Opening.{Opening}
@@ -19,8 +19,8 @@ use Rattle.b1_model.specs.declared.events.Action.TheVariants as act
 use Rattle.b1_model.specs.declared.events.Doing.{Doing}
 use Rattle.b1_model.specs.Names.{is_own}
 use Rattle.b1_model.specs.MachineParts.{PeerPart, DriverPart, NodePart, no_node, no_origin, node_at, is_live, is_data, is_staged, is_release_notice, record_or_none}
-use Rattle.b1_model.specs.MachineTables.{put, without, is_stage, is_staged_notice, is_unheld, count_of, uncounted, counted, notice_taken, in_state, with_node, with_nodes, with_made}
-use Rattle.b1_model.specs.MachineSend.{send_refusal, attach_answer, attached_by, final_stamp, with_slots, with_stamp, find_stage}
+use Rattle.b1_model.specs.MachineTables.{without, is_stage, is_staged_notice, is_unheld, count_of, uncounted, counted, notice_taken, with_made}
+use Rattle.b1_model.specs.MachineSend.{send_refusal, attach_answer, attached_by, final_stamp}
 use Rattle.b1_model.specs.MachineReceive.{Arriving, discards, discarded, cleared, reference_by, slot_arrives, taken_entry, front_by, front_taken, received_part, with_release_notice, is_released, dropped_refs}
 use Rattle.b1_model.specs.MachineDestroy.{with_own_notices, doom_by}
 use Rattle.b1_model.specs.MachineDriver.{send_of}
@@ -30,7 +30,7 @@ use Rattle.b1_step.specs.Rights.{Has}
 use Rattle.b1_step.proofs.Changed.{changes}
 use Rattle.b1_step.proofs.Orders.{find_has}
 use Rattle.b1_step.proofs.Queues.{put_has}
-use Rattle.b1_inv_tools.proofs.Comes.{Comes, ComesOrWas, queue_comes, without_fails}
+use Rattle.b1_inv_tools.proofs.Comes.{Comes, queue_comes, without_fails}
 use Rattle.b1_inv_notices.proofs.Nodes.{undoomed_state}
 use Rattle.b1_inv_peer.proofs.Entries.{data_committed}
 use Rattle.b1_inv_peer.proofs.NodeEvents.{SameNode, made_length, node_changed, other_node, held_by_some}

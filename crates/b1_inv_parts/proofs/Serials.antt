@@ -1,6 +1,5 @@
 -- The own nodes of all queued entries were made.
-use Rattle.std.proofs.Common.{◌≡◌, refl, sym, ap, ◌∙◌, inl, inr, subst, arith, ℕ, ◌+◌, ◌<◌, ◌≤◌, Bool, true, false, List, [], ◌∷◌, length, Option, Some, None, ◌⊎◌, not, ◌&&◌}
-use Rattle.std.specs.Prelude.{slice_get}
+use Rattle.std.proofs.Common.{◌≡◌, refl, sym, ap, ◌∙◌, inl, inr, subst, arith, ℕ, ◌<◌, ◌≤◌, Bool, true, false, List, ◌∷◌, length, Option, Some, None, not, ◌&&◌}
 use Rattle.std.specs.Bool.{then_some}
 use Rattle.std.proofs.lemmas.Bool.{cases_lt}
 use Rattle.std.proofs.lemmas.List.{get_or_past, length-set}
@@ -18,9 +17,9 @@ use Rattle.b1_model.specs.declared.events.Action.{Action}
 use Rattle.b1_model.specs.declared.events.Action.TheVariants as act
 use Rattle.b1_model.specs.declared.events.Doing.{Doing}
 use Rattle.b1_model.specs.MachineParts.{PeerPart, DriverPart, State, is_live, no_node, node_at}
-use Rattle.b1_model.specs.MachineTables.{with_node, uncounted}
-use Rattle.b1_model.specs.MachineSend.{stage_refusal, first_reason, with_slots, find_stage}
-use Rattle.b1_model.specs.MachineReceive.{dropped_refs, is_released}
+use Rattle.b1_model.specs.MachineTables.{uncounted}
+use Rattle.b1_model.specs.MachineSend.{stage_refusal, first_reason, with_slots}
+use Rattle.b1_model.specs.MachineReceive.{dropped_refs}
 use Rattle.b1_model.specs.MachineDriver.{node_of_place, send_of}
 use Rattle.b1_model.specs.MachineEvents.{happens, stage_by, begun_of, user_of, begin_serials}
 use Rattle.b1_model.specs.MachineStep.{Step, opening_state}
@@ -29,8 +28,7 @@ use Rattle.b1_step.proofs.Lists.{has_at}
 use Rattle.b1_step.proofs.Queues.{put_has}
 use Rattle.b1_step.proofs.Orders.{find_has}
 use Rattle.b1_inv_record.specs.Parts.{IsForMade, SerialsMade}
-use Rattle.b1_inv.specs.Words.{IsPeer}
-use Rattle.b1_inv_tools.proofs.Comes.{Comes, ComesOrWas, queue_comes}
+use Rattle.b1_inv_tools.proofs.Comes.{Comes, queue_comes}
 use Rattle.b1_inv_tools.proofs.Grows.{nodes_grow}
 use Rattle.b1_inv_tools.proofs.Leaves.{step_did}
 use Rattle.b1_inv_notices.proofs.Serials.{destroy_made, reset_made}

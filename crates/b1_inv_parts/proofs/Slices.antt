@@ -1,6 +1,6 @@
 -- One part's slices and queued messages: each message has its own unpublished slice, and every unpublished slice is a message's.
-use Rattle.std.proofs.Common.{◌≡◌, ◌≢◌, ◌⊎◌, refl, sym, ap, ◌∙◌, inl, inr, subst, arith, ℕ, ◌+◌, ◌≤◌, ◌==◌, Bool, true, false, cond, ◌&&◌, List, [], ◌∷◌, length, Option, Some, None}
-use Rattle.std.proofs.lemmas.Bool.{eqb-true, eq-eqb, and_parts}
+use Rattle.std.proofs.Common.{◌≡◌, ◌≢◌, ◌⊎◌, refl, sym, ap, ◌∙◌, inl, inr, subst, ℕ, ◌≤◌, ◌==◌, Bool, true, false, cond, ◌&&◌, List, [], ◌∷◌, length, Option, Some, None}
+use Rattle.std.proofs.lemmas.Bool.{eqb-true, eq-eqb}
 use Rattle.std.proofs.lemmas.Option.{same_Some}
 use Rattle.b1_model.specs.declared.naming.Key.{Key}
 use Rattle.b1_model.specs.declared.naming.NodeRef.{NodeRef}
@@ -20,7 +20,6 @@ use Rattle.b1_inv.specs.Stages.{OnceEach}
 use Rattle.b1_inv_record.specs.Parts.{IsSliceOf}
 use Rattle.b1_inv_sends.proofs.Once.{stage_parts}
 use Rattle.b1_inv_tools.proofs.Comes.{without_fails}
-use Rattle.b1_inv_peer.proofs.Entries.{data_committed}
 use Rattle.b1_peer_pool.specs.Slices.{used_at, is_queued, IsPool}
 use Rattle.b1_peer_pool.proofs.Fits.{IsLength-slice_len}
 use Rattle.b1_peer_pool.proofs.Found.{slice_at-within, used_at-found, is_received-used, received-apart, used-is_queued}
