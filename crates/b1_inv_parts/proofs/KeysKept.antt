@@ -42,7 +42,7 @@ use Rattle.b1_inv_peer.proofs.RecordFields.{or_none}
 use Rattle.b1_inv_sends.proofs.Once.{stage_parts}
 use Rattle.b1_inv_sends.proofs.Places.{accepted_past}
 use Rattle.b1_inv_sends.proofs.StagesKept.{opening_queue}
-use Rattle.b1_inv_parts.proofs.Lifting.{lifted}
+use Rattle.b1_inv_parts.proofs.Steps.{kept_by_step}
 use Rattle.b1_inv_parts.proofs.Keys.{BringsNew, PlacesApart, event_ascends, final_key, new_from, staged_key}
 use Rattle.b1_inv_parts.proofs.MarksKept.{record_in}
 use Rattle.b1_inv_parts.proofs.ReleasesKept.{drop_fits}
@@ -339,7 +339,7 @@ module _ {o : Opening} {s : State} {p : ℕ} {command : Option Command} {t : Sta
 
   pub keys_kept : KeysAscend t
   keys_kept = record {
-    ascending = lifted step (λ x. Ascending x.queue) right.parts.keys.ascending (λ up. event_ascends o step.local.memory k.e k.doing step.peer up step.action (next_new k.e.owed refl));
+    ascending = kept_by_step step (λ x. Ascending x.queue) right.parts.keys.ascending (λ up. event_ascends o step.local.memory k.e k.doing step.peer up step.action (next_new k.e.owed refl));
   }
 
 pub keys_begin : (o : Opening) → KeysAscend (opening_state o)

@@ -1,9 +1,9 @@
-pub mod Lifting
+pub mod Steps
 pub mod Serials
 pub mod Records
 pub mod Releases
 pub mod ReleasesKept
-pub mod Walk
+pub mod Receives
 pub mod Marks
 pub mod MarksKept
 pub mod Slices

@@ -34,7 +34,7 @@ use Rattle.b1_inv_peer.proofs.RecordFields.{same_or_apart, field_stays, other_re
 use Rattle.b1_inv_peer.proofs.RecordLists.{notice_needs}
 use Rattle.b1_inv_refs.proofs.Arrivals.{slot_rest, slot_rising}
 use Rattle.b1_inv_refs.proofs.Peers.{stage_is_message}
-use Rattle.b1_inv_parts.proofs.Walk.{received_all}
+use Rattle.b1_inv_parts.proofs.Receives.{received_all}
 
 abbrev Queue : Type 0
 Queue = List (Key × Entry)

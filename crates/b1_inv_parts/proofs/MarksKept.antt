@@ -24,7 +24,7 @@ use Rattle.b1_inv_refs.proofs.GivenUp.{record_found}
 use Rattle.b1_inv_sends.proofs.StagesKept.{opening_queue}
 use Rattle.b1_inv_tools.proofs.Leaves.{step_did}
 use Rattle.b1_inv_tools.proofs.Openings.{opening_each}
-use Rattle.b1_inv_parts.proofs.Lifting.{lifted}
+use Rattle.b1_inv_parts.proofs.Steps.{kept_by_step}
 use Rattle.b1_inv_parts.proofs.Marks.{mark, MarksOk, event_marks}
 
 abbrev Queue : Type 0
@@ -174,7 +174,7 @@ right_of s each = record {
 pub marks_kept : (o : Opening) (s : State) (p : ℕ) (c : Option Command) (t : State) → IsSound o s → KeysAscend s → MarksRight s → Step o s p c t → MarksRight t
 marks_kept o s p c t sound keys right step =
     right_of t
-    (lifted step MarksOk (λ q x is. marks_of s right keys sound.rising q x is)
+    (kept_by_step step MarksOk (λ q x is. marks_of s right keys sound.rising q x is)
     (λ ok. event_marks o step.local.memory (step_did step).e (step_did step).doing step.peer ok step.action))
 
 -- ---- the opening

@@ -38,7 +38,7 @@ use Rattle.b1_peer_pool.specs.Stored.{full_reason}
 use Rattle.b1_peer_pool.proofs.Fits.{full_reason-none}
 use Rattle.b1_peer_pool.proofs.Laws.{IsPool-whole_pool}
 use Rattle.b1_inv_parts.proofs.Slices.{AreSliced, same_messages, stage_left, stage_committed, message_staged, received_left, front_given_back, front_published, front_notice, nothing_sliced}
-use Rattle.b1_inv_parts.proofs.Walk.{received_all}
+use Rattle.b1_inv_parts.proofs.Receives.{received_all}
 
 abbrev Queue : Type 0
 Queue = List (Key × Entry)

@@ -29,7 +29,7 @@ use Rattle.b1_pool.specs.Slices.{IsPoolSize}
 use Rattle.b1_peer_pool.specs.Slices.{is_used, used_at, Spans, IsMerged}
 use Rattle.b1_peer_pool.proofs.Found.{used_at-found, used_at-slice, usage-used}
 use Rattle.b1_peer_pool.proofs.Laws.{IsPool-whole_pool}
-use Rattle.b1_inv_parts.proofs.Lifting.{lifted}
+use Rattle.b1_inv_parts.proofs.Steps.{kept_by_step}
 use Rattle.b1_inv_parts.proofs.Slices.{AreSliced, slice_offset, slice_usage, nothing_sliced}
 use Rattle.b1_inv_parts.proofs.Pools.{PartSliced, event_sliced}
 
@@ -122,7 +122,7 @@ pool_of s each = record {
 pub pools_kept : (o : Opening) (s : State) (p : ℕ) (c : Option Command) (t : State) → IsSound o s → KeysAscend s → PoolRight s → Step o s p c t → PoolRight t
 pools_kept o s p c t sound keys right step =
     pool_of t
-    (lifted step PartSliced (λ q x is. sliced_of s right q x is (pool_size o s sound.opening sound.numbered q x is))
+    (kept_by_step step PartSliced (λ q x is. sliced_of s right q x is (pool_size o s sound.opening sound.numbered q x is))
     (λ ok. event_sliced o step.local.memory (step_did step).e (step_did step).doing step.peer (sound.stages.once step.at step.peer step.is_peer)
     (record { rising = sound.rising step.at step.peer step.is_peer; ascending = keys.ascending step.at step.peer step.is_peer; sliced = ok }) step.action))
 

@@ -13,7 +13,7 @@ use Rattle.b1_inv_tools.proofs.Leaves.{step_did}
 use Rattle.b1_inv_tools.proofs.Openings.{opening_each}
 use Rattle.b1_inv_peer.proofs.RecordLists.{AllNeeded, flight_needs, held_needs, needed_changed, needed_made}
 use Rattle.b1_inv_refs.proofs.Tables.{Closed, table_after}
-use Rattle.b1_inv_parts.proofs.Lifting.{lifted}
+use Rattle.b1_inv_parts.proofs.Steps.{kept_by_step}
 
 -- every record of a part
 abbrev Needed : PeerPart → Type 0
@@ -33,7 +33,7 @@ closed = record {
 
 pub records_kept : (o : Opening) (s : State) (p : ℕ) (c : Option Command) (t : State) → RecordsNeeded s → Step o s p c t → RecordsNeeded t
 records_kept o s p c t all step = record {
-  needed = λ q y h is has. lifted step Needed (λ r x here g there. all.needed r x g here there)
+  needed = λ q y h is has. kept_by_step step Needed (λ r x here g there. all.needed r x g here there)
       (table_after (λ given handles. AllNeeded handles) (λ node. ⊤) closed o step.local.memory (step_did step).e (step_did step).doing step.action step.peer (λ n there. tt)) q y is h has;
 }
 

@@ -1,15 +1,12 @@
 -- Release notices through one event: of live nodes that nobody has a reference to, one of a node at most.
-use Rattle.std.proofs.Common.{◌≡◌, ◌≢◌, refl, sym, ap, ◌∙◌, inl, inr, subst, arith, ℕ, ◌+◌, ◌<◌, ◌≤◌, ◌==◌, max, Bool, true, false, ◌&&◌, not, List, [], ◌∷◌, fold, zip, filter, length, get_or, Option, Some, None, ◌⊎◌}
+use Rattle.std.proofs.Common.{◌≡◌, ◌≢◌, refl, sym, ap, ◌∙◌, inl, inr, subst, arith, ℕ, ◌+◌, ◌<◌, ◌≤◌, ◌==◌, max, Bool, true, false, ◌&&◌, not, List, [], ◌∷◌, drop, fold, filter, length, get_or, Option, Some, None, ◌⊎◌}
 use Rattle.std.specs.Prelude.{⊤}
 use Rattle.std.proofs.lemmas.Bool.{eq-eqb, and_parts}
 use Rattle.b1_model.specs.declared.naming.Key.{Key}
-use Rattle.b1_model.specs.declared.naming.NodeRef.{NodeRef}
 use Rattle.b1_model.specs.declared.naming.Opening.{Opening}
 use Rattle.b1_model.specs.declared.commands.SendCmd.{SendCmd}
 use Rattle.b1_model.specs.declared.parts.Attach.{Attach}
 use Rattle.b1_model.specs.declared.parts.Attach.TheVariants as attach
-use Rattle.b1_model.specs.declared.parts.Slot.{Slot}
-use Rattle.b1_model.specs.declared.parts.Slot.TheVariants as slot
 use Rattle.b1_model.specs.declared.parts.NodeState.TheVariants.{Dying, Destroyed}
 use Rattle.b1_model.specs.declared.answers.Reason.{Reason}
 use Rattle.b1_model.specs.declared.entries.Entry.{Entry}
@@ -18,10 +15,10 @@ use Rattle.b1_model.specs.declared.events.Action.{Action}
 use Rattle.b1_model.specs.declared.events.Action.TheVariants as act
 use Rattle.b1_model.specs.declared.events.Doing.{Doing}
 use Rattle.b1_model.specs.Names.{is_own}
-use Rattle.b1_model.specs.MachineParts.{PeerPart, DriverPart, NodePart, no_node, no_origin, node_at, is_live, is_data, is_staged, is_release_notice, record_or_none}
+use Rattle.b1_model.specs.MachineParts.{PeerPart, DriverPart, NodePart, no_node, no_origin, node_at, is_live, is_data, is_staged, is_release_notice}
 use Rattle.b1_model.specs.MachineTables.{without, is_stage, is_staged_notice, is_unheld, count_of, uncounted, counted, notice_taken, with_made}
 use Rattle.b1_model.specs.MachineSend.{send_refusal, attach_answer, attached_by, final_stamp}
-use Rattle.b1_model.specs.MachineReceive.{Arriving, discards, discarded, cleared, reference_by, slot_arrives, taken_entry, front_by, front_taken, received_part, with_release_notice, is_released, dropped_refs}
+use Rattle.b1_model.specs.MachineReceive.{discards, cleared, taken_entry, front_by, front_taken, received_part, with_release_notice, is_released, dropped_refs}
 use Rattle.b1_model.specs.MachineDestroy.{with_own_notices, doom_by}
 use Rattle.b1_model.specs.MachineDriver.{send_of}
 use Rattle.b1_model.specs.MachineOrder.{is_any_release_notice}
@@ -34,6 +31,7 @@ use Rattle.b1_inv_tools.proofs.Comes.{Comes, queue_comes, without_fails}
 use Rattle.b1_inv_notices.proofs.Nodes.{undoomed_state}
 use Rattle.b1_inv_peer.proofs.Entries.{data_committed}
 use Rattle.b1_inv_peer.proofs.NodeEvents.{SameNode, made_length, node_changed, other_node, held_by_some}
+use Rattle.b1_inv_refs.proofs.Arrivals.{all_removed, slots_rest}
 use Rattle.b1_inv_refs.proofs.Peers.{stage_is_message}
 use Rattle.b1_inv_parts.proofs.Serials.{live_made}
 
@@ -133,37 +131,14 @@ drop_node : (b : Bool) (x : PeerPart) (t serial : ℕ) → node_at (with_release
 drop_node true x t serial = refl
 drop_node false x t serial = refl
 
--- a RECV changes of a node only that its notice was taken
-discard_nodes : (e : Entry) (x : PeerPart) → (discarded x e).nodes ≡ x.nodes
-discard_nodes (Message origin user index serial offset len nodes slots handles payload) x = refl
-discard_nodes (OwnNotice serial index) x = refl
-discard_nodes (ForeignNotice node index) x = refl
-discard_nodes (ReleaseNotice serial) x = refl
-
-discards_nodes : (es : List (Key × Entry)) (x : PeerPart) → (fold (λ z f. discarded z f.1) x es).nodes ≡ x.nodes
-discards_nodes [] x = refl
-discards_nodes (f ∷ rest) x = discards_nodes rest (discarded x f.1) ∙ discard_nodes f.1 x
-
-reference_nodes : (b : Bool) (a : Arriving) (node : NodeRef) → (reference_by b a node).part.nodes ≡ a.part.nodes
-reference_nodes true a node = refl
-reference_nodes false a node = refl
-
-slot_nodes : (a : Arriving) (node : NodeRef) (s : Slot) → (slot_arrives a (node, s)).part.nodes ≡ a.part.nodes
-slot_nodes a node slot.Unattached = refl
-slot_nodes a node slot.Attached = reference_nodes (record_or_none node a.part.handles).dead a node
-slot_nodes a node slot.Own = refl
-slot_nodes a node slot.Void = refl
-
-slots_nodes : (ss : List (NodeRef × Slot)) (a : Arriving) → (fold slot_arrives a ss).part.nodes ≡ a.part.nodes
-slots_nodes [] a = refl
-slots_nodes ((node, s) ∷ rest) a = slots_nodes rest (slot_arrives a (node, s)) ∙ slot_nodes a node s
+-- ---- a RECV changes of a node only that its notice was taken
 
 module _ (serial : ℕ) where
   nodes_are : (ns ms : List NodePart) → ns ≡ ms → SameNode (get_or ns serial no_node) (get_or ms serial no_node)
   nodes_are ns ms same = node_is _ _ (ap (λ l. get_or l serial no_node) same)
 
   at_taken : (e : Entry) (k : Key) (x : PeerPart) → serial < length x.nodes → SameNode (node_at (taken_entry x k e).1 serial) (node_at x serial)
-  at_taken (Message origin user index t offset len nodes slots handles payload) k x within = nodes_are _ x.nodes (slots_nodes (zip nodes slots) _)
+  at_taken (Message origin user index t offset len nodes slots handles payload) k x within = nodes_are _ x.nodes (slots_rest nodes slots _).nodes
   at_taken (OwnNotice t index) k x within = node_changed serial t notice_taken x.nodes within SameNode same_node (refl, refl)
   at_taken (ForeignNotice node index) k x within = same_node (node_at x serial)
   at_taken (ReleaseNotice t) k x within = same_node (node_at x serial)
@@ -178,7 +153,7 @@ module _ (serial : ℕ) where
 
   at_recv : (x : PeerPart) → serial < length x.nodes → SameNode (node_at (received_part x) serial) (node_at x serial)
   at_recv x within =
-      let same : (cleared x).nodes ≡ x.nodes = discards_nodes (discards x) _ in
+      let same : (cleared x).nodes ≡ x.nodes = (all_removed (discards x) (record x { queue = drop (length (discards x)) x.queue })).nodes in
       let further = at_front_taken (cleared x).queue (cleared x) (subst (λ ns. serial < length ns) (sym same) within) in
       let old = nodes_are (cleared x).nodes x.nodes same in
       (further.0 ∙ old.0, further.1 ∙ old.1)

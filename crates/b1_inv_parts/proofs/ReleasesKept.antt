@@ -31,7 +31,7 @@ use Rattle.b1_inv_sends.proofs.StagesKept.{opening_queue}
 use Rattle.b1_inv_refs.proofs.Amounts.{owed_cons}
 use Rattle.b1_inv_refs.proofs.Counting.{member_le}
 use Rattle.b1_inv_refs.proofs.Owes.{opened_amount}
-use Rattle.b1_inv_parts.proofs.Lifting.{lifted}
+use Rattle.b1_inv_parts.proofs.Steps.{kept_by_step}
 use Rattle.b1_inv_parts.proofs.Releases.{ReleasesOk, Fits, event_releases}
 
 module _ {o : Opening} {s : State} {p : ℕ} {command : Option Command} {t : State} (sound : IsSound o s) (step : Step o s p command t) where
@@ -111,7 +111,7 @@ module _ {o : Opening} {s : State} {p : ℕ} {command : Option Command} {t : Sta
 
   each_releases : ReleaseNoticesRight s → (q : ℕ) (y : PeerPart) → IsPeer t q y → ReleasesOk y
   each_releases right =
-      lifted step ReleasesOk
+      kept_by_step step ReleasesOk
       (λ q x is. record { live = λ serial key h. right.live q serial x key is h; unheld = λ serial key h. right.unheld q serial x key is h; once = λ serial key l h i. right.once q serial x key l is h i })
       (λ ok. event_releases o step.local.memory k.e k.doing step.peer ok step.action (next_fits k.e.owed refl))
 

@@ -33,7 +33,7 @@ use Rattle.b1_inv_tools.proofs.Grows.{nodes_grow}
 use Rattle.b1_inv_tools.proofs.Leaves.{step_did}
 use Rattle.b1_inv_notices.proofs.Serials.{destroy_made, reset_made}
 use Rattle.b1_inv_sends.proofs.StagesKept.{opening_queue}
-use Rattle.b1_inv_parts.proofs.Lifting.{lifted}
+use Rattle.b1_inv_parts.proofs.Steps.{kept_by_step}
 
 -- ---- entries
 
@@ -116,7 +116,7 @@ module _ (o : Opening) (memory : Bool) (d : DriverPart) (doing : Doing) where
 
 pub serials_kept : (o : Opening) (s : State) (p : ℕ) (c : Option Command) (t : State) → SerialsMade s → Step o s p c t → SerialsMade t
 serials_kept o s p c t made step = record {
-  made = λ q y f is has. lifted step QueueMade (λ r x here g h. made.made r x g here h) (event_made o step.local.memory (step_did step).e (step_did step).doing step.action step.peer) q y is f has;
+  made = λ q y f is has. kept_by_step step QueueMade (λ r x here g h. made.made r x g here h) (event_made o step.local.memory (step_did step).e (step_did step).doing step.action step.peer) q y is f has;
 }
 
 pub serials_begin : (o : Opening) → SerialsMade (opening_state o)

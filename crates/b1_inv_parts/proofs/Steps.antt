@@ -12,8 +12,8 @@ module _ {o : Opening} {s : State} {p : ℕ} {command : Option Command} {t : Sta
   abbrev k : Did o step.local.memory step.driver command step.peer step.action step.at step.new_driver step.new_peer
   k = step_did step
 
-  pub lifted : ((q : ℕ) (x : PeerPart) → IsPeer s q x → P x) → (P step.peer → P (happens o step.local.memory k.e k.doing step.action step.peer).1) → (q : ℕ) (y : PeerPart) → IsPeer t q y → P y
-  lifted before keeps q y is = elim (peer_cases step q y is) [
+  pub kept_by_step : ((q : ℕ) (x : PeerPart) → IsPeer s q x → P x) → (P step.peer → P (happens o step.local.memory k.e k.doing step.action step.peer).1) → (q : ℕ) (y : PeerPart) → IsPeer t q y → P y
+  kept_by_step before keeps q y is = elim (peer_cases step q y is) [
     | inl here ↦ subst P (sym (here.1 ∙ k.peer)) (keeps (before step.at step.peer step.is_peer))
     | inr elsewhere ↦ before q y elsewhere.1
   ]
