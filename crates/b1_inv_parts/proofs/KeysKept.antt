@@ -1,6 +1,7 @@
 -- The keys of every queue go on ascending in every step: each key that comes is new.
-use Rattle.std.proofs.Common.{◌≡◌, ◌≢◌, ◌⊎◌, refl, sym, ap, ◌∙◌, inl, inr, subst, arith, ℕ, ◌+◌, ◌<◌, ◌≤◌, ◌%◌, ◌==◌, max, Bool, true, false, ◌&&◌, if◌then◌else◌, not, List, [], ◌∷◌, get_or, length, Option, Some, None}
-use Rattle.std.specs.Prelude.{slice_get}
+use Rattle.std.proofs.Common.{◌≡◌, ◌≢◌, ◌⊎◌, refl, sym, ap, ◌∙◌, inl, inr, subst, arith, ℕ, suc, ◌+◌, ◌<◌, ◌≤◌, ◌%◌, ◌==◌, max, Bool, true, false, ◌&&◌, if◌then◌else◌, not, List, [], ◌∷◌, get_or, length, Option, Some, None}
+use Rattle.std.specs.Prelude.{slice_get, filter}
+use Rattle.std.specs.List.{AllPairs}
 use Rattle.std.proofs.lemmas.Bool.{eq-eqb, eqb-true, and_parts, not-true}
 use Rattle.std.proofs.lemmas.Option.{same_Some, slice_get_within}
 use Rattle.b1_model.specs.declared.naming.Key.{Key}
@@ -26,13 +27,14 @@ use Rattle.b1_model.specs.MachineEvents.{doomed_of}
 use Rattle.b1_model.specs.MachineStep.{Step, opening_state}
 use Rattle.b1_step.specs.Rights.{Has}
 use Rattle.b1_step.specs.Ordered.{Ascending, NewKey}
+use Rattle.b1_step.proofs.Lists.{has_all, has_filter}
 use Rattle.b1_step.proofs.Orders.{find_has}
 use Rattle.b1_inv.specs.Words.{IsDriver, IsMade, waits_at, phase_uncommitted, is_uncommitted, is_pending, stamp_of_phase, fixed_stamp}
 use Rattle.b1_inv.specs.Notices.{DestructionShape, doomed_now}
 use Rattle.b1_inv.specs.Stamps.{WasCommitted, IsStampOf, is_committing, is_committing_notices}
 use Rattle.b1_inv.specs.Sound.{IsSound}
 use Rattle.b1_inv_record.specs.Parts.{KeysAscend}
-use Rattle.b1_inv_record.specs.Right.{IsRight}
+use Rattle.b1_inv_record.specs.Right.{PartsRight}
 use Rattle.b1_inv_tools.proofs.Facts.{next_of, next_owed, even_is}
 use Rattle.b1_inv_tools.proofs.Leaves.{Did, step_did}
 use Rattle.b1_inv_notices.proofs.Turns.{get_there}
@@ -72,7 +74,15 @@ staged_parts origin f is =
     let inner = and_parts (not (is_data f.1)) (is_staged f) outer.0 in
     (not-true (is_data f.1) inner.0, inner.1, eqb-true f.0.origin origin outer.1)
 
-module _ {o : Opening} {s : State} {p : ℕ} {command : Option Command} {t : State} (sound : IsSound o s) (right : IsRight o s) (step : Step o s p command t) where
+-- of entries at places of their own, two at one place are one
+one_place : (queue : List (Key × Entry)) (f g : Key × Entry) → AllPairs (λ a b. a.0.index ≢ b.0.index) queue → Has queue f → Has queue g → f.0.index ≡ g.0.index → f ≡ g
+one_place [] f g apart h i same = absurd h
+one_place (e ∷ rest) f g apart (inl a) (inl b) same = a ∙ sym b
+one_place (e ∷ rest) f g apart (inl a) (inr b) same = absurd (has_all (λ c. e.0.index ≢ c.0.index) rest g (λ j d within. apart 0 (suc j) d (omega arith) (omega (arith, within))) b (ap (λ c. c.0.index) (sym a) ∙ same))
+one_place (e ∷ rest) f g apart (inr a) (inl b) same = absurd (has_all (λ c. e.0.index ≢ c.0.index) rest f (λ j d within. apart 0 (suc j) d (omega arith) (omega (arith, within))) a (ap (λ c. c.0.index) (sym b) ∙ sym same))
+one_place (e ∷ rest) f g apart (inr a) (inr b) same = one_place rest f g (λ i j d before within. apart (suc i) (suc j) d (omega (arith, before)) (omega (arith, within))) a b same
+
+module _ {o : Opening} {s : State} {p : ℕ} {command : Option Command} {t : State} (sound : IsSound o s) (parts : PartsRight s) (step : Step o s p command t) where
   abbrev k : Did o step.local.memory step.driver command step.peer step.action step.at step.new_driver step.new_peer
   k = step_did step
 
@@ -186,7 +196,7 @@ module _ {o : Opening} {s : State} {p : ℕ} {command : Option Command} {t : Sta
       other f has same (mine, at_place, calm, inr foreign) =
           let place : f.0.index ≡ index = ap (λ key. key.index) same in
           let serials : mine ≡ serial = same_Some mine serial (sym at_place ∙ ap (slice_get (doomed_of k.doing.phase)) place ∙ doomed) in
-          let marked = right.parts.marks.marked step.at f.0.index step.peer f.0 (record { owner = p; serial = mine }) step.is_peer (subst (Has step.peer.queue) foreign.0 has) in
+          let marked = parts.marks.marked step.at f.0.index step.peer f.0 (record { owner = p; serial = mine }) step.is_peer (subst (Has step.peer.queue) foreign.0 has) in
           let none = marked_has (record_of (record { owner = p; serial = mine }) step.peer.handles) (record { owner = p; serial = mine }) marked in
           let node : ◌≡◌ {A = NodeRef} (record { owner = p; serial = mine }) (record { owner = k.e.me; serial = serial }) = λ i. record { owner = sym me_p i; serial = serials i } in
           let needed : needs_notice step.peer (record { owner = p; serial = mine }) ≡ true = ap (needs_notice step.peer) node ∙ needs in
@@ -240,6 +250,13 @@ module _ {o : Opening} {s : State} {p : ℕ} {command : Option Command} {t : Sta
           let waits : is_uncommitted step.driver step.at ≡ true = ap (λ doing. elim doing [ None ↦ false | Some one ↦ phase_uncommitted step.driver.me one.phase step.at ]) (open_is started) ∙ ap (λ me. phase_uncommitted me k.doing.phase step.at) (sym k.opened.me) ∙ uncommitted in
           cc (sym done ∙ waits)
 
+  -- in the own queue each has a place of its own
+  own_apart : step.at ≡ p → (f g : Key × Entry) → Has step.peer.queue f → Has step.peer.queue g → is_staged_notice k.e.me f ≡ true → is_staged_notice k.e.me g ≡ true → f.0.index ≡ g.0.index → f.0 ≡ g.0
+  own_apart here f g has also passes too place =
+      let at : step.at ≡ k.e.me = here ∙ sym me_p in
+      let inside : (e : Key × Entry) → Has step.peer.queue e → is_staged_notice k.e.me e ≡ true → Has (filter (is_staged_notice step.at) step.peer.queue) e = λ e there is. has_filter (is_staged_notice step.at) step.peer.queue e there (ap (λ q. is_staged_notice q e) at ∙ is) in
+      ap (λ e. e.0) (one_place (filter (is_staged_notice step.at) step.peer.queue) f g (sound.apart step.at step.peer step.is_peer) (inside f has passes) (inside g also too) place)
+
   notices_apart : (stamp : ℕ) → PlacesApart (is_staged_notice k.e.me) stamp step.peer.queue
   notices_apart stamp f g has also passes too place =
       let a = staged_parts k.e.me f passes in
@@ -250,20 +267,18 @@ module _ {o : Opening} {s : State} {p : ℕ} {command : Option Command} {t : Sta
       serials m n is other = same_Some n m (sym other ∙ ap (slice_get (doomed_of k.doing.phase)) (sym place) ∙ is)
 
       two : NoticeIs f → NoticeIs g → f.0 ≡ g.0
-      two (m, is, calm, inl own) (n, other, still, inl mine) =
-          right.destructions.own.once step.at f.0.index g.0.index m step.peer f.0 g.0 step.is_peer (subst (Has step.peer.queue) own.0 has)
-          (subst (λ r. Has step.peer.queue (g.0, OwnNotice r g.0.index)) (serials m n is other) (subst (Has step.peer.queue) mine.0 also))
+      two (m, is, calm, inl own) (n, other, still, inl mine) = own_apart own.1 f g has also passes too place
       two (m, is, calm, inl own) (n, other, still, inr foreign) = absurd (foreign.1 own.1)
       two (m, is, calm, inr foreign) (n, other, still, inl own) = absurd (foreign.1 own.1)
       two (m, is, calm, inr foreign) (n, other, still, inr another) =
-          right.parts.marks.once step.at f.0.index g.0.index step.peer f.0 g.0 (record { owner = p; serial = m }) step.is_peer (subst (Has step.peer.queue) foreign.0 has)
+          parts.marks.once step.at f.0.index g.0.index step.peer f.0 g.0 (record { owner = p; serial = m }) step.is_peer (subst (Has step.peer.queue) foreign.0 has)
           (subst (λ r. Has step.peer.queue (g.0, ForeignNotice (record { owner = p; serial = r }) g.0.index)) (serials m n is other) (subst (Has step.peer.queue) another.0 also))
 
   -- ---- a drop
 
   -- the owner of a node whose notice is queued is a peer
   owner_named : (key : Key) (node : NodeRef) (index : ℕ) → Has step.peer.queue (key, ForeignNotice node index) → node.owner ≢ no_origin
-  owner_named key node index has = at (record_of node step.peer.handles) refl (right.parts.marks.marked step.at index step.peer key node step.is_peer has)
+  owner_named key node index has = at (record_of node step.peer.handles) refl (parts.marks.marked step.at index step.peer key node step.is_peer has)
     where
       at : (r : Option HandleRecord) → record_of node step.peer.handles ≡ r → (or_none node r).notice ≡ true → node.owner ≢ no_origin
       at None found notice = absurd (cc notice)
@@ -288,7 +303,7 @@ module _ {o : Opening} {s : State} {p : ℕ} {command : Option Command} {t : Sta
       none key (ReleaseNotice mine) has same =
           let shape = sound.notices.queued step.at step.peer (key, ReleaseNotice mine) step.is_peer has in
           let serial_is : mine ≡ serial = sym shape.1 ∙ ap (λ n. n.index) same in
-          let unheld : is_unheld (node_at step.peer serial) ≡ true = subst (λ r. is_unheld (node_at step.peer r) ≡ true) serial_is (right.parts.releases.unheld step.at mine step.peer key step.is_peer has) in
+          let unheld : is_unheld (node_at step.peer serial) ≡ true = subst (λ r. is_unheld (node_at step.peer r) ≡ true) serial_is (parts.releases.unheld step.at mine step.peer key step.is_peer has) in
           cc (sym unheld ∙ held_by_some (node_at step.peer serial) holder some)
 
   -- ---- the event that was next
@@ -339,7 +354,7 @@ module _ {o : Opening} {s : State} {p : ℕ} {command : Option Command} {t : Sta
 
   pub keys_kept : KeysAscend t
   keys_kept = record {
-    ascending = kept_by_step step (λ x. Ascending x.queue) right.parts.keys.ascending (λ up. event_ascends o step.local.memory k.e k.doing step.peer up step.action (next_new k.e.owed refl));
+    ascending = kept_by_step step (λ x. Ascending x.queue) parts.keys.ascending (λ up. event_ascends o step.local.memory k.e k.doing step.peer up step.action (next_new k.e.owed refl));
   }
 
 pub keys_begin : (o : Opening) → KeysAscend (opening_state o)
