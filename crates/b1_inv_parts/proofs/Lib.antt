@@ -1,0 +1,14 @@
+pub mod Steps
+pub mod Serials
+pub mod Records
+pub mod Releases
+pub mod ReleasesKept
+pub mod Receives
+pub mod Marks
+pub mod MarksKept
+pub mod Slices
+pub mod Pools
+pub mod PoolsKept
+pub mod Keys
+pub mod KeysKept
+pub mod Kept

@@ -1,0 +1,2 @@
+//! What ties every reached state to its record: definitions alone.
+#![tactic(auto)]
