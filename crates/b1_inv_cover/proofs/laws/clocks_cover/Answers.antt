@@ -1,0 +1,8 @@
+use Rattle.b1_inv_cover.proofs.Above.{above_begins, above_kept}
+use Rattle.b1_inv_cover.proofs.laws.clocks_cover.Goals as goal
+
+pub returns-clause-opening_StampsAboveCollected : goal.returns-clause-opening_StampsAboveCollected
+returns-clause-opening_StampsAboveCollected c = λ o valid. above_begins o
+
+pub returns-clause-kept_StampsAboveCollected : goal.returns-clause-kept_StampsAboveCollected
+returns-clause-kept_StampsAboveCollected c = λ o s p command t sound right step. above_kept right.clocks.above step

@@ -1,0 +1,16 @@
+ghost use Rattle.std.specs.Prelude.{Option, ℕ};
+ghost use Rattle.b1_model.specs.declared.commands.Command.{Command};
+ghost use Rattle.b1_model.specs.declared.naming.Opening.{Opening};
+ghost use Rattle.b1_model.specs.MachineParts.{State};
+ghost use Rattle.b1_model.specs.MachineStep.{Step, opening_state};
+ghost use Rattle.b1_model.specs.Opening.{IsOpening};
+ghost use Rattle.b1_inv.specs.Sound.{IsSound};
+ghost use Rattle.b1_inv_record.specs.Clocks.{StampsAboveCollected};
+ghost use Rattle.b1_inv_record.specs.Right.{IsRight};
+
+/// Every bus begins with its clocks covering what they should, and a step keeps them so.
+pub fn clocks_cover()
+    ensures opening_StampsAboveCollected { (o : Opening) → IsOpening o → StampsAboveCollected (opening_state o) }
+    ensures kept_StampsAboveCollected { (o : Opening) (s : State) (p : ℕ) (c : Option Command) (t : State) → IsSound o s → IsRight o s
+        → Step o s p c t → StampsAboveCollected t }
+{}
