@@ -1,1 +1,3 @@
+pub mod Stamped
 pub mod Above
+pub mod Synced

@@ -5,7 +5,7 @@ ghost use Rattle.b1_model.specs.MachineParts.{State};
 ghost use Rattle.b1_model.specs.MachineStep.{Step, opening_state};
 ghost use Rattle.b1_model.specs.Opening.{IsOpening};
 ghost use Rattle.b1_inv.specs.Sound.{IsSound};
-ghost use Rattle.b1_inv_record.specs.Clocks.{StampsAboveCollected};
+ghost use Rattle.b1_inv_record.specs.Clocks.{StampsAboveCollected, Synced};
 ghost use Rattle.b1_inv_record.specs.Right.{IsRight};
 
 /// Every bus begins with its clocks covering what they should, and a step keeps them so.
@@ -13,4 +13,7 @@ pub fn clocks_cover()
     ensures opening_StampsAboveCollected { (o : Opening) → IsOpening o → StampsAboveCollected (opening_state o) }
     ensures kept_StampsAboveCollected { (o : Opening) (s : State) (p : ℕ) (c : Option Command) (t : State) → IsSound o s → IsRight o s
         → Step o s p c t → StampsAboveCollected t }
+    ensures opening_Synced { (o : Opening) → IsOpening o → Synced (opening_state o) }
+    ensures kept_Synced { (o : Opening) (s : State) (p : ℕ) (c : Option Command) (t : State) → IsSound o s → IsRight o s
+        → Step o s p c t → Synced t }
 {}

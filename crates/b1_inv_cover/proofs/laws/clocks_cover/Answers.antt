@@ -1,4 +1,5 @@
 use Rattle.b1_inv_cover.proofs.Above.{above_begins, above_kept}
+use Rattle.b1_inv_cover.proofs.Synced.{synced_begins, synced_kept}
 use Rattle.b1_inv_cover.proofs.laws.clocks_cover.Goals as goal
 
 pub returns-clause-opening_StampsAboveCollected : goal.returns-clause-opening_StampsAboveCollected
@@ -6,3 +7,9 @@ returns-clause-opening_StampsAboveCollected c = λ o valid. above_begins o
 
 pub returns-clause-kept_StampsAboveCollected : goal.returns-clause-kept_StampsAboveCollected
 returns-clause-kept_StampsAboveCollected c = λ o s p command t sound right step. above_kept right.clocks.above step
+
+pub returns-clause-opening_Synced : goal.returns-clause-opening_Synced
+returns-clause-opening_Synced c = λ o valid. synced_begins o
+
+pub returns-clause-kept_Synced : goal.returns-clause-kept_Synced
+returns-clause-kept_Synced c = λ o s p command t sound right step. synced_kept right.clocks.synced step
