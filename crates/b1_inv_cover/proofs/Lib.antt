@@ -1,3 +1,4 @@
 pub mod Stamped
 pub mod Above
 pub mod Synced
+pub mod Came

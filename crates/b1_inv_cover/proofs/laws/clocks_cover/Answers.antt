@@ -1,5 +1,6 @@
 use Rattle.b1_inv_cover.proofs.Above.{above_begins, above_kept}
 use Rattle.b1_inv_cover.proofs.Synced.{synced_begins, synced_kept}
+use Rattle.b1_inv_cover.proofs.Came.{committed_begins, committed_kept}
 use Rattle.b1_inv_cover.proofs.laws.clocks_cover.Goals as goal
 
 pub returns-clause-opening_StampsAboveCollected : goal.returns-clause-opening_StampsAboveCollected
@@ -13,3 +14,9 @@ returns-clause-opening_Synced c = λ o valid. synced_begins o
 
 pub returns-clause-kept_Synced : goal.returns-clause-kept_Synced
 returns-clause-kept_Synced c = λ o s p command t sound right step. synced_kept right.clocks.synced step
+
+pub returns-clause-opening_CommittedBelowClock : goal.returns-clause-opening_CommittedBelowClock
+returns-clause-opening_CommittedBelowClock c = λ o valid. committed_begins o
+
+pub returns-clause-kept_CommittedBelowClock : goal.returns-clause-kept_CommittedBelowClock
+returns-clause-kept_CommittedBelowClock c = λ o s p command t sound right step. committed_kept sound right.clocks.synced step right.clocks.committed
