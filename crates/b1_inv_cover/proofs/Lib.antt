@@ -2,3 +2,4 @@ pub mod Stamped
 pub mod Above
 pub mod Synced
 pub mod Came
+pub mod Listed

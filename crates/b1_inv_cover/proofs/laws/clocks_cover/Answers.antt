@@ -1,6 +1,7 @@
 use Rattle.b1_inv_cover.proofs.Above.{above_begins, above_kept}
 use Rattle.b1_inv_cover.proofs.Synced.{synced_begins, synced_kept}
 use Rattle.b1_inv_cover.proofs.Came.{committed_begins, committed_kept}
+use Rattle.b1_inv_cover.proofs.Listed.{listed_begins, listed_kept}
 use Rattle.b1_inv_cover.proofs.laws.clocks_cover.Goals as goal
 
 pub returns-clause-opening_StampsAboveCollected : goal.returns-clause-opening_StampsAboveCollected
@@ -20,3 +21,9 @@ returns-clause-opening_CommittedBelowClock c = λ o valid. committed_begins o
 
 pub returns-clause-kept_CommittedBelowClock : goal.returns-clause-kept_CommittedBelowClock
 returns-clause-kept_CommittedBelowClock c = λ o s p command t sound right step. committed_kept sound right.clocks.synced step right.clocks.committed
+
+pub returns-clause-opening_ListedBelowClock : goal.returns-clause-opening_ListedBelowClock
+returns-clause-opening_ListedBelowClock c = λ o valid. listed_begins o valid
+
+pub returns-clause-kept_ListedBelowClock : goal.returns-clause-kept_ListedBelowClock
+returns-clause-kept_ListedBelowClock c = λ o s p command t sound right step. listed_kept sound right.clocks.committed step right.clocks.listed
