@@ -3,3 +3,4 @@ pub mod Above
 pub mod Synced
 pub mod Came
 pub mod Listed
+pub mod Owed

@@ -2,6 +2,7 @@ use Rattle.b1_inv_cover.proofs.Above.{above_begins, above_kept}
 use Rattle.b1_inv_cover.proofs.Synced.{synced_begins, synced_kept}
 use Rattle.b1_inv_cover.proofs.Came.{committed_begins, committed_kept}
 use Rattle.b1_inv_cover.proofs.Listed.{listed_begins, listed_kept}
+use Rattle.b1_inv_cover.proofs.Owed.{owed_begins, owed_kept}
 use Rattle.b1_inv_cover.proofs.laws.clocks_cover.Goals as goal
 
 pub returns-clause-opening_StampsAboveCollected : goal.returns-clause-opening_StampsAboveCollected
@@ -27,3 +28,9 @@ returns-clause-opening_ListedBelowClock c = λ o valid. listed_begins o valid
 
 pub returns-clause-kept_ListedBelowClock : goal.returns-clause-kept_ListedBelowClock
 returns-clause-kept_ListedBelowClock c = λ o s p command t sound right step. listed_kept sound right.clocks.committed step right.clocks.listed
+
+pub returns-clause-opening_OwedRight : goal.returns-clause-opening_OwedRight
+returns-clause-opening_OwedRight c = λ o valid. owed_begins o
+
+pub returns-clause-kept_OwedRight : goal.returns-clause-kept_OwedRight
+returns-clause-kept_OwedRight c = λ o s p command t sound right step. owed_kept sound step right.clocks.owed
