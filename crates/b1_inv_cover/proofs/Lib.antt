@@ -4,3 +4,5 @@ pub mod Synced
 pub mod Came
 pub mod Listed
 pub mod Owed
+pub mod Collects
+pub mod StagedKeys

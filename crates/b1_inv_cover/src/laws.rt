@@ -5,7 +5,7 @@ ghost use Rattle.b1_model.specs.MachineParts.{State};
 ghost use Rattle.b1_model.specs.MachineStep.{Step, opening_state};
 ghost use Rattle.b1_model.specs.Opening.{IsOpening};
 ghost use Rattle.b1_inv.specs.Sound.{IsSound};
-ghost use Rattle.b1_inv_record.specs.Clocks.{StampsAboveCollected, Synced, CommittedBelowClock, ListedBelowClock, OwedRight};
+ghost use Rattle.b1_inv_record.specs.Clocks.{StampsAboveCollected, Synced, CommittedBelowClock, ListedBelowClock, OwedRight, StagedKeysRight};
 ghost use Rattle.b1_inv_record.specs.Right.{IsRight};
 
 /// Every bus begins with its clocks covering what they should, and a step keeps them so.
@@ -25,4 +25,7 @@ pub fn clocks_cover()
     ensures opening_OwedRight { (o : Opening) → IsOpening o → OwedRight (opening_state o) }
     ensures kept_OwedRight { (o : Opening) (s : State) (p : ℕ) (c : Option Command) (t : State) → IsSound o s → IsRight o s
         → Step o s p c t → OwedRight t }
+    ensures opening_StagedKeysRight { (o : Opening) → IsOpening o → StagedKeysRight (opening_state o) }
+    ensures kept_StagedKeysRight { (o : Opening) (s : State) (p : ℕ) (c : Option Command) (t : State) → IsSound o s → IsRight o s
+        → Step o s p c t → StagedKeysRight t }
 {}

@@ -3,6 +3,7 @@ use Rattle.b1_inv_cover.proofs.Synced.{synced_begins, synced_kept}
 use Rattle.b1_inv_cover.proofs.Came.{committed_begins, committed_kept}
 use Rattle.b1_inv_cover.proofs.Listed.{listed_begins, listed_kept}
 use Rattle.b1_inv_cover.proofs.Owed.{owed_begins, owed_kept}
+use Rattle.b1_inv_cover.proofs.StagedKeys.{staged_begins, staged_kept}
 use Rattle.b1_inv_cover.proofs.laws.clocks_cover.Goals as goal
 
 pub returns-clause-opening_StampsAboveCollected : goal.returns-clause-opening_StampsAboveCollected
@@ -34,3 +35,9 @@ returns-clause-opening_OwedRight c = λ o valid. owed_begins o
 
 pub returns-clause-kept_OwedRight : goal.returns-clause-kept_OwedRight
 returns-clause-kept_OwedRight c = λ o s p command t sound right step. owed_kept sound step right.clocks.owed
+
+pub returns-clause-opening_StagedKeysRight : goal.returns-clause-opening_StagedKeysRight
+returns-clause-opening_StagedKeysRight c = λ o valid. staged_begins o
+
+pub returns-clause-kept_StagedKeysRight : goal.returns-clause-kept_StagedKeysRight
+returns-clause-kept_StagedKeysRight c = λ o s p command t sound right step. staged_kept sound right.clocks.synced step right.clocks.staged
