@@ -1,5 +1,5 @@
 -- What comes into a queue is one above its peer's clock, or is at most that clock; and committed entries are at most it.
-use Rattle.std.proofs.Common.{◌≡◌, ◌⊎◌, refl, sym, ap, subst, ◌∙◌, inl, inr, ℕ, ◌+◌, ◌<◌, ◌≤◌, max, Bool, true, false, cond, ◌&&◌, ◌==◌, nat_le, List, [], ◌∷◌, length, get_or, Option, Some, None}
+use Rattle.std.proofs.Common.{◌≡◌, ◌⊎◌, refl, sym, ap, subst, ◌∙◌, inl, inr, ℕ, ◌+◌, ◌≤◌, max, Bool, true, false, cond, ◌&&◌, ◌==◌, nat_le, List, [], ◌∷◌, get_or, Option, Some}
 use Rattle.std.specs.Prelude.{slice_get}
 use Rattle.std.proofs.lemmas.Bool.{and_parts}
 use Rattle.std.proofs.lemmas.Option.{same_Some, slice_get_within, get_or_from_slice_get}
@@ -7,7 +7,6 @@ use native.Mathlib.Omega.{arith}
 use Rattle.b1_model.specs.declared.commands.Command.{Command}
 use Rattle.b1_model.specs.declared.commands.Command.TheVariants as cmd
 use Rattle.b1_model.specs.declared.naming.Key.{Key}
-use Rattle.b1_model.specs.declared.naming.NodeRef.{NodeRef}
 use Rattle.b1_model.specs.declared.naming.Opening.{Opening}
 use Rattle.b1_model.specs.declared.entries.Entry.{Entry}
 use Rattle.b1_model.specs.declared.events.Action.TheVariants as act
@@ -22,14 +21,12 @@ use Rattle.b1_model.specs.MachineTables.{is_stage, with_made}
 use Rattle.b1_model.specs.MachineSend.{find_stage}
 use Rattle.b1_model.specs.MachineReceive.{with_release_notice, is_released, dropped_refs}
 use Rattle.b1_model.specs.MachineDriver.{first_action, next_action, peer_of, node_of_place, no_ref}
-use Rattle.b1_model.specs.MachineEvents.{happens}
 use Rattle.b1_model.specs.MachineStep.{Step, opening_state, wire_made}
 use Rattle.b1_step.specs.Rights.{Has}
 use Rattle.b1_step.proofs.Clocks.{rises}
 use Rattle.b1_step.proofs.Orders.{find_has}
 use Rattle.b1_inv.specs.Words.{IsPeer, IsDriver, is_accepted_place, stamp_of_phase, waits_at}
 use Rattle.b1_inv.specs.Sound.{IsSound}
-use Rattle.b1_inv.specs.Stages.{HasSender}
 use Rattle.b1_inv_record.specs.Clocks.{CommittedBelowClock, Synced}
 use Rattle.b1_inv_tools.proofs.Comes.{Comes, queue_comes}
 use Rattle.b1_inv_tools.proofs.Facts.{accepted_within}
@@ -39,7 +36,7 @@ use Rattle.b1_inv_notices.proofs.Brings.{odd_is, stage_is}
 use Rattle.b1_inv_notices.proofs.Sets.{has_at_place}
 use Rattle.b1_inv_notices.proofs.Turns.{doing_in, opened, answered, parts, going, going_doing, going_action, get_there}
 use Rattle.b1_inv_notices.proofs.StampTurns.{fixed_in}
-use Rattle.b1_inv_cover.proofs.Stamped.{was_open, peer_before, same_peer_at}
+use Rattle.b1_inv_cover.proofs.Stamped.{was_open}
 
 third : (a b c e : Bool) → (a && b && c && e) ≡ true → b ≡ true
 third true true c e is = refl

@@ -6,3 +6,6 @@ pub mod Listed
 pub mod Owed
 pub mod Collects
 pub mod StagedKeys
+pub mod Covers
+pub mod Bounded
+pub mod Given

@@ -1,5 +1,5 @@
 -- Every stamp in a peer's calls is at most its clock.
-use Rattle.std.proofs.Common.{◌≡◌, ◌⊎◌, refl, sym, ap, subst, ◌∙◌, inl, inr, ℕ, zero, suc, ◌+◌, ◌<◌, ◌≤◌, max, Bool, true, false, cond, ◌&&◌, nat_lt, List, [], ◌∷◌, ◌++◌, drop, length, get_or, Option, Some, None, Ok, Err, Result, append-nil}
+use Rattle.std.proofs.Common.{◌≡◌, refl, sym, ap, subst, ◌∙◌, inl, inr, ℕ, zero, suc, ◌+◌, ◌≤◌, max, Bool, true, false, cond, ◌&&◌, nat_lt, List, [], ◌∷◌, ◌++◌, drop, length, get_or, Option, Some, None, Ok, Err, append-nil}
 use Rattle.std.specs.Prelude.{slice_get, ⊤}
 use Rattle.std.proofs.lemmas.Option.{same_Some, slice_get_within}
 use native.Mathlib.Omega.{arith}
@@ -11,13 +11,10 @@ use Rattle.b1_model.specs.declared.naming.NodeRef.{NodeRef}
 use Rattle.b1_model.specs.declared.naming.Opening.{Opening}
 use Rattle.b1_model.specs.declared.answers.Answer.{Answer}
 use Rattle.b1_model.specs.declared.answers.Answer.TheVariants as answer
-use Rattle.b1_model.specs.declared.answers.Front.{Front}
 use Rattle.b1_model.specs.declared.answers.Reason.{Reason}
 use Rattle.b1_model.specs.declared.answers.Reason.TheVariants.{Unknown, Memory, Invalid}
-use Rattle.b1_model.specs.declared.answers.Receipt.{Receipt}
 use Rattle.b1_model.specs.declared.answers.Refused.{Refused}
 use Rattle.b1_model.specs.declared.parts.Begun.{Begun}
-use Rattle.b1_model.specs.declared.parts.Received.{Received}
 use Rattle.b1_model.specs.declared.entries.Entry.{Entry}
 use Rattle.b1_model.specs.declared.entries.Entry.TheVariants.{Message, OwnNotice, ForeignNotice, ReleaseNotice}
 use Rattle.b1_model.specs.declared.events.Action.{Action}
@@ -39,10 +36,10 @@ use Rattle.b1_model.specs.MachinePool.{is_received}
 use Rattle.b1_model.specs.MachineSend.{send_refusal, final_stamp}
 use Rattle.b1_model.specs.MachineReceive.{received, cleared, discards, front_by, front_taken, taken_entry}
 use Rattle.b1_model.specs.MachineDestroy.{doom_by}
-use Rattle.b1_model.specs.MachineDriver.{accepted_from, is_place, attaching, with_slot, all_staged, staging, all_refused, memory_place, refused_at, unstaging, syncing, visiting, with_visit, syncing_notices, committing_notices, destroying, is_flushing, send_of, recv_answer, started, turn, Turn, Goes, Ends, next_action, peer_of}
+use Rattle.b1_model.specs.MachineDriver.{accepted_from, is_place, attaching, with_slot, all_staged, staging, all_refused, memory_place, refused_at, unstaging, syncing, visiting, with_visit, syncing_notices, committing_notices, destroying, is_flushing, send_of, recv_answer, started, turn, Turn, Goes, Ends, peer_of}
 use Rattle.b1_model.specs.MachineTook.{answer_of, stamped_answer, is_await, is_waiting, as_call, call_of, goes_by, is_done, turned, with_facts, took, driver_calls, open_by, fixed_call}
 use Rattle.b1_model.specs.MachineEvents.{happens, begin_by, stage_by, destroy_by, begin_refusal, begin_serials, collected_of, doomed_of, local_answer}
-use Rattle.b1_model.specs.MachineStep.{Step, opening_state, peer_records, record_of_state, idle_driver}
+use Rattle.b1_model.specs.MachineStep.{Step, opening_state, peer_records, record_of_state}
 use Rattle.b1_step.specs.Rights.{Has}
 use Rattle.b1_step.proofs.Clocks.{rises}
 use Rattle.b1_step.proofs.Lists.{has_append, has_left}
@@ -54,7 +51,7 @@ use Rattle.b1_inv_tools.proofs.Comes.{has_drop}
 use Rattle.b1_inv_tools.proofs.Leaves.{driver_cases, new_peer}
 use Rattle.b1_inv_tools.proofs.Received.{at_cleared}
 use Rattle.b1_inv_tools.proofs.Openings.{opening_idle}
-use Rattle.b1_inv_notices.proofs.Turns.{doing_in, opened, answered, parts, going, going_doing, going_action, going_answer, get_there}
+use Rattle.b1_inv_notices.proofs.Turns.{doing_in, opened, parts, going, going_doing, going_action, going_answer, get_there}
 use Rattle.b1_inv_cover.proofs.Stamped.{peer_before, same_peer_at}
 
 -- the stamp of an answer is within a bound

@@ -1,6 +1,5 @@
 -- A drop that a SEND owes has its stamp; any other one is of the driver's own peer, with a clock at most that peer's.
-use Rattle.std.proofs.Common.{◌≡◌, ◌⊎◌, refl, sym, ap, subst, ◌∙◌, inl, inr, ℕ, ◌+◌, ◌≤◌, Bool, true, false, cond, List, [], ◌∷◌, Option, Some, None, Ok, Err}
-use Rattle.std.specs.Prelude.{slice_get}
+use Rattle.std.proofs.Common.{◌≡◌, refl, sym, ap, subst, ◌∙◌, inl, inr, ℕ, ◌+◌, ◌≤◌, Bool, true, false, cond, List, [], ◌∷◌, Option, Some, None, Ok}
 use native.Mathlib.Omega.{arith}
 use Rattle.b1_model.specs.declared.commands.Command.{Command}
 use Rattle.b1_model.specs.declared.commands.Command.TheVariants as cmd
@@ -21,9 +20,9 @@ use Rattle.b1_model.specs.MachineParts.{PeerPart, DriverPart, State}
 use Rattle.b1_model.specs.MachineTables.{held_node}
 use Rattle.b1_model.specs.MachineSend.{send_refusal, is_committed}
 use Rattle.b1_model.specs.MachineReceive.{has_dead, reaped_part, released_by}
-use Rattle.b1_model.specs.MachineDriver.{accepted_from, first_action, next_action, peer_of, send_of, turn, Goes}
-use Rattle.b1_model.specs.MachineTook.{drops_of, cancelled_drops, owed_after, goes_by, is_done, answer_of, turned, with_facts, took}
-use Rattle.b1_model.specs.MachineEvents.{happens, begin_by, stage_by, destroy_by, begin_refusal, begin_serials, number_of}
+use Rattle.b1_model.specs.MachineDriver.{accepted_from, first_action, next_action, peer_of}
+use Rattle.b1_model.specs.MachineTook.{drops_of, owed_after, goes_by, is_done, answer_of, with_facts, took}
+use Rattle.b1_model.specs.MachineEvents.{happens, begin_by, stage_by, destroy_by, begin_refusal, begin_serials}
 use Rattle.b1_model.specs.MachineStep.{Step, opening_state}
 use Rattle.b1_step.specs.Rights.{Has}
 use Rattle.b1_step.proofs.Clocks.{rises}

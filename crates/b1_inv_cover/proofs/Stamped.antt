@@ -1,9 +1,8 @@
 -- What an answer makes of a command that has its stamp; and the parts of a step.
-use Rattle.std.proofs.Common.{◌≡◌, ◌≢◌, ◌⊎◌, refl, sym, ap, subst, ◌∙◌, inl, inr, ℕ, ◌+◌, ◌<◌, ◌≤◌, Bool, true, false, cond, List, [], ◌∷◌, Option, Some, None, Ok, Err, nat_lt, length}
-use Rattle.std.specs.Prelude.{slice_get, ⊤}
+use Rattle.std.proofs.Common.{◌≡◌, refl, sym, ap, subst, ◌∙◌, inl, inr, ℕ, ◌+◌, ◌<◌, ◌≤◌, Bool, true, false, cond, Option, Some, None, Ok, Err, nat_lt, length}
+use Rattle.std.specs.Prelude.{⊤}
 use Rattle.std.proofs.lemmas.Bool.{cases_lt, le-ltb, lt-ltb}
 use Rattle.std.proofs.lemmas.Option.{same_Some}
-use native.Mathlib.Omega.{arith}
 use Rattle.b1_model.specs.declared.commands.Command.{Command}
 use Rattle.b1_model.specs.declared.naming.Opening.{Opening}
 use Rattle.b1_model.specs.declared.answers.Answer.TheVariants as answer
@@ -14,13 +13,13 @@ use Rattle.b1_model.specs.declared.events.Outcome.{Outcome}
 use Rattle.b1_model.specs.declared.events.Outcome.TheVariants as out
 use Rattle.b1_model.specs.declared.events.Phase.{Phase}
 use Rattle.b1_model.specs.declared.events.Phase.TheVariants.{Starting, Staging, Unstaging, Attaching, Stamping, Syncing, Committing, Visiting, Dooming, SyncingNotices, CommittingOwn, CommittingNotices, Flushing}
-use Rattle.b1_model.specs.MachineParts.{PeerPart, DriverPart, State}
+use Rattle.b1_model.specs.MachineParts.{PeerPart, State}
 use Rattle.b1_model.specs.MachineDriver.{accepted_from, is_place, syncing, syncing_notices, committing_notices, is_flushing, turn, Turn, Goes, Ends}
 use Rattle.b1_model.specs.MachineStep.{Step}
 use Rattle.b1_step.proofs.Locality.{clocks_rise}
 use Rattle.b1_inv.specs.Words.{IsPeer, stamp_of_phase}
 use Rattle.b1_inv_tools.proofs.Leaves.{peer_cases}
-use Rattle.b1_inv_notices.proofs.Turns.{doing_in, OnTurn, may_end, took_leaves, parts, going_doing, going_answer}
+use Rattle.b1_inv_notices.proofs.Turns.{doing_in, OnTurn, took_leaves, parts, going_doing, going_answer}
 use Rattle.b1_inv_notices.proofs.StampTurns.{fixed_in, Gave, SameOr, on_map, stamp_turn}
 
 -- a fact of what is open, where that has a stamp

@@ -1,7 +1,7 @@
 -- The recipients and the holders that a stamped command has synced have clocks at least its stamp.
-use Rattle.std.proofs.Common.{◌≡◌, ◌⊎◌, refl, sym, ap, subst, ◌∙◌, inl, inr, ℕ, zero, suc, ◌+◌, ◌<◌, ◌≤◌, Bool, true, false, ◌&&◌, nat_lt, List, [], ◌∷◌, take, length, get_or, Option, Some, None, Ok, Err}
+use Rattle.std.proofs.Common.{◌≡◌, ◌⊎◌, refl, sym, ap, subst, ◌∙◌, inl, inr, ℕ, zero, suc, ◌+◌, ◌<◌, ◌≤◌, Bool, true, false, ◌&&◌, nat_lt, List, [], ◌∷◌, take, length, get_or, Option, Some, None, Ok}
 use Rattle.std.specs.Prelude.{slice_get}
-use Rattle.std.proofs.lemmas.Bool.{cases_lt, cases_eq, lt-ltb, le-ltb, and_parts}
+use Rattle.std.proofs.lemmas.Bool.{cases_lt, lt-ltb, le-ltb, and_parts}
 use Rattle.std.proofs.lemmas.Option.{get_or_from_slice_get}
 use native.Mathlib.Omega.{arith}
 use Rattle.b1_model.specs.declared.commands.Command.{Command}
@@ -19,13 +19,13 @@ use Rattle.b1_model.specs.MachineDriver.{accepted_from, is_place, node_of_place,
 use Rattle.b1_model.specs.MachineEvents.{begun_of}
 use Rattle.b1_model.specs.MachineStep.{Step, opening_state}
 use Rattle.b1_step.specs.Rights.{Has}
-use Rattle.b1_inv.specs.Words.{IsPeer, IsDriver, is_accepted_place, stamp_of_phase}
+use Rattle.b1_inv.specs.Words.{IsPeer, is_accepted_place, stamp_of_phase}
 use Rattle.b1_inv_record.specs.Clocks.{Synced, is_synced_place, synced_peers}
 use Rattle.b1_inv_tools.proofs.Leaves.{driver_cases, new_peer}
 use Rattle.b1_inv_tools.proofs.Openings.{opening_idle}
 use Rattle.b1_inv_sends.proofs.Places.{next_before, none_left}
 use Rattle.b1_inv_notices.proofs.Turns.{opened, answered, parts, going_doing, going_answer}
-use Rattle.b1_inv_cover.proofs.Stamped.{Steps, Stamped, stamped_step, was_open, peer_before, same_peer_at}
+use Rattle.b1_inv_cover.proofs.Stamped.{Steps, stamped_step, was_open, peer_before, same_peer_at}
 
 -- ---- what a sync adds
 

@@ -5,27 +5,28 @@ ghost use Rattle.b1_model.specs.MachineParts.{State};
 ghost use Rattle.b1_model.specs.MachineStep.{Step, opening_state};
 ghost use Rattle.b1_model.specs.Opening.{IsOpening};
 ghost use Rattle.b1_inv.specs.Sound.{IsSound};
-ghost use Rattle.b1_inv_record.specs.Clocks.{StampsAboveCollected, Synced, CommittedBelowClock, ListedBelowClock, OwedRight, StagedKeysRight};
-ghost use Rattle.b1_inv_record.specs.Right.{IsRight};
+ghost use Rattle.b1_inv_cover.specs.Bounded.{ClocksBounded};
+ghost use Rattle.b1_inv_cover.specs.Given.{GivenRises};
+ghost use Rattle.b1_inv_record.specs.Right.{ClocksCover, IsRight};
 
-/// Every bus begins with its clocks covering what they should, and a step keeps them so.
+/// Every bus begins with its clocks covering what they should, and a step keeps them so. Every committed entry and every
+/// stamp in a peer's calls is at most that peer's clock; the clocks of the recipients and of the holders that a stamped
+/// command has synced are at least its stamp; a stamp is above all that its command collected; a staged key is at most one
+/// above the clock of its peer and what its command has collected; and an owed drop has its SEND's stamp, or a clock of
+/// the driver's own peer.
 pub fn clocks_cover()
-    ensures opening_StampsAboveCollected { (o : Opening) → IsOpening o → StampsAboveCollected (opening_state o) }
-    ensures kept_StampsAboveCollected { (o : Opening) (s : State) (p : ℕ) (c : Option Command) (t : State) → IsSound o s → IsRight o s
-        → Step o s p c t → StampsAboveCollected t }
-    ensures opening_Synced { (o : Opening) → IsOpening o → Synced (opening_state o) }
-    ensures kept_Synced { (o : Opening) (s : State) (p : ℕ) (c : Option Command) (t : State) → IsSound o s → IsRight o s
-        → Step o s p c t → Synced t }
-    ensures opening_CommittedBelowClock { (o : Opening) → IsOpening o → CommittedBelowClock (opening_state o) }
-    ensures kept_CommittedBelowClock { (o : Opening) (s : State) (p : ℕ) (c : Option Command) (t : State) → IsSound o s → IsRight o s
-        → Step o s p c t → CommittedBelowClock t }
-    ensures opening_ListedBelowClock { (o : Opening) → IsOpening o → ListedBelowClock (opening_state o) }
-    ensures kept_ListedBelowClock { (o : Opening) (s : State) (p : ℕ) (c : Option Command) (t : State) → IsSound o s → IsRight o s
-        → Step o s p c t → ListedBelowClock t }
-    ensures opening_OwedRight { (o : Opening) → IsOpening o → OwedRight (opening_state o) }
-    ensures kept_OwedRight { (o : Opening) (s : State) (p : ℕ) (c : Option Command) (t : State) → IsSound o s → IsRight o s
-        → Step o s p c t → OwedRight t }
-    ensures opening_StagedKeysRight { (o : Opening) → IsOpening o → StagedKeysRight (opening_state o) }
-    ensures kept_StagedKeysRight { (o : Opening) (s : State) (p : ℕ) (c : Option Command) (t : State) → IsSound o s → IsRight o s
-        → Step o s p c t → StagedKeysRight t }
+    ensures opening { (o : Opening) → IsOpening o → ClocksCover (opening_state o) }
+    ensures kept { (o : Opening) (s : State) (p : ℕ) (c : Option Command) (t : State) → IsSound o s → IsRight o s
+        → Step o s p c t → ClocksCover t }
+{}
+
+/// In every sound state all clocks and stamps are even, and at most 2^62 and two for each peer.
+pub fn clocks_stay_bounded()
+    ensures { (o : Opening) (s : State) → IsSound o s → ClocksBounded s }
+{}
+
+/// A step never lowers a peer's count of given numbers, and each number that a handle record gets is the next one at that
+/// time: no number is given twice.
+pub fn given_numbers_are_new()
+    ensures { (o : Opening) (s : State) (p : ℕ) (c : Option Command) (t : State) → Step o s p c t → GivenRises s t }
 {}

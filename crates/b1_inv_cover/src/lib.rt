@@ -4,4 +4,4 @@
 
 mod laws;
 
-pub use laws::clocks_cover;
+pub use laws::{clocks_cover, clocks_stay_bounded, given_numbers_are_new};
