@@ -38,7 +38,7 @@ Fresh before old after new = (before ≤ after) × ((h : HandleRecord) (number :
 fresh_refl : (given : ℕ) (hs : Handles) → Fresh given hs given hs
 fresh_refl given hs = (omega arith, λ h number there is. inl (h, there, refl, is))
 
-between_more : (a b c d number : ℕ) → c ≤ a → b ≤ d → IsGivenBetween a b number → IsGivenBetween c d number
+pub between_more : (a b c d number : ℕ) → c ≤ a → b ≤ d → IsGivenBetween a b number → IsGivenBetween c d number
 between_more a b c d number low high k = record { place = k.place; low = let l = k.low in omega (arith, l, low); high = let u = k.high in omega (arith, u, high); is_number = k.is_number }
 
 fresh_trans : (a b c : ℕ) (old mid new : Handles) → Fresh a old b mid → Fresh b mid c new → Fresh a old c new

@@ -9,3 +9,4 @@ pub mod StagedKeys
 pub mod Covers
 pub mod Bounded
 pub mod Given
+pub mod GivenRuns

@@ -23,3 +23,7 @@ pub record IsGivenBetween (before after number : ℕ) : Type 0 where
 pub record GivenRises (s t : State) : Type 0 where
   pub rises : (q : ℕ) (x y : PeerPart) → IsPeer s q x → IsPeer t q y → x.given ≤ y.given
   pub fresh : (q number : ℕ) (x y : PeerPart) (h : HandleRecord) → IsPeer s q x → IsPeer t q y → Has y.handles h → h.number ≡ Some number → HadNumber x h number ⊎ IsGivenBetween x.given y.given number
+
+-- a number that a peer has in both states names the same node
+pub record NumbersStay (s t : State) : Type 0 where
+  pub node : (q number : ℕ) (x y : PeerPart) (g h : HandleRecord) → IsPeer s q x → IsPeer t q y → Has x.handles g → Has y.handles h → g.number ≡ Some number → h.number ≡ Some number → g.node ≡ h.node

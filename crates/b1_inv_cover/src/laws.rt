@@ -1,12 +1,13 @@
-ghost use Rattle.std.specs.Prelude.{Option, ℕ};
+ghost use Rattle.std.specs.Prelude.{List, Option, ℕ};
 ghost use Rattle.b1_model.specs.declared.commands.Command.{Command};
 ghost use Rattle.b1_model.specs.declared.naming.Opening.{Opening};
 ghost use Rattle.b1_model.specs.MachineParts.{State};
-ghost use Rattle.b1_model.specs.MachineStep.{Step, opening_state};
+ghost use Rattle.b1_model.specs.MachineStep.{Label, Leads, Step, opening_state};
 ghost use Rattle.b1_model.specs.Opening.{IsOpening};
+ghost use Rattle.b1_step.specs.Laws.{EachStep};
 ghost use Rattle.b1_inv.specs.Sound.{IsSound};
 ghost use Rattle.b1_inv_cover.specs.Bounded.{ClocksBounded};
-ghost use Rattle.b1_inv_cover.specs.Given.{GivenRises};
+ghost use Rattle.b1_inv_cover.specs.Given.{GivenRises, NumbersStay};
 ghost use Rattle.b1_inv_record.specs.Right.{ClocksCover, IsRight};
 
 /// Every bus begins with its clocks covering what they should, and a step keeps them so. Every committed entry and every
@@ -26,7 +27,9 @@ pub fn clocks_stay_bounded()
 {}
 
 /// A step never lowers a peer's count of given numbers, and each number that a handle record gets is the next one at that
-/// time: no number is given twice.
+/// time. So over every list of steps no number is given twice: where a peer's number names a node before and after them,
+/// it names the same node.
 pub fn given_numbers_are_new()
-    ensures { (o : Opening) (s : State) (p : ℕ) (c : Option Command) (t : State) → Step o s p c t → GivenRises s t }
+    ensures step { EachStep (λ o s p c t step. GivenRises s t) }
+    ensures node { (o : Opening) (s : State) (steps : List Label) (t : State) → IsSound o s → Leads o s steps t → NumbersStay s t }
 {}
