@@ -16,12 +16,11 @@ use Rattle.b1_model.specs.declared.events.Phase.{Phase}
 use Rattle.b1_model.specs.declared.events.Phase.TheVariants.{Starting, Staging, Committing, Visiting, CommittingOwn, CommittingNotices}
 use Rattle.b1_model.specs.declared.events.Sending.{Sending}
 use Rattle.b1_model.specs.MachineParts.{PeerPart, DriverPart, State, is_staged, is_data, is_odd}
-use Rattle.b1_model.specs.Names.{is_own}
-use Rattle.b1_model.specs.MachineTables.{is_stage, with_made}
+use Rattle.b1_model.specs.MachineTables.{is_stage}
 use Rattle.b1_model.specs.MachineSend.{find_stage}
 use Rattle.b1_model.specs.MachineReceive.{with_release_notice, is_released, dropped_refs}
 use Rattle.b1_model.specs.MachineDriver.{first_action, next_action, peer_of, node_of_place, no_ref}
-use Rattle.b1_model.specs.MachineStep.{Step, opening_state, wire_made}
+use Rattle.b1_model.specs.MachineStep.{Step, opening_state}
 use Rattle.b1_step.specs.Rights.{Has}
 use Rattle.b1_step.proofs.Clocks.{rises}
 use Rattle.b1_step.proofs.Orders.{find_has}
@@ -31,7 +30,7 @@ use Rattle.b1_inv_record.specs.Clocks.{CommittedBelowClock, Synced}
 use Rattle.b1_inv_tools.proofs.Comes.{Comes, queue_comes}
 use Rattle.b1_inv_tools.proofs.Facts.{accepted_within}
 use Rattle.b1_inv_tools.proofs.Leaves.{peer_cases}
-use Rattle.b1_inv_tools.proofs.Openings.{opening_each}
+use Rattle.b1_inv_sends.proofs.StagesKept.{opening_queue}
 use Rattle.b1_inv_notices.proofs.Brings.{odd_is, stage_is}
 use Rattle.b1_inv_notices.proofs.Sets.{has_at_place}
 use Rattle.b1_inv_notices.proofs.Turns.{doing_in, opened, answered, parts, going, going_doing, going_action, get_there}
@@ -148,14 +147,7 @@ module _ {o : Opening} {s : State} {p : ℕ} {c : Option Command} {t : State} (s
       ];
     }
 
--- every queue is empty when a bus begins
-pub opening_empty : (o : Opening) (q : ℕ) (x : PeerPart) → IsPeer (opening_state o) q x → x.queue ≡ []
-opening_empty o = opening_each (λ x. x.queue ≡ []) (λ number x is. made number x is) (λ node dest x is. is) (λ node x is. is) o (λ me spec. refl)
-  where
-    made : (number : ℕ) (x : PeerPart) → x.queue ≡ [] → (wire_made number x).queue ≡ []
-    made number x is = elim (is_own number) as (λ b. (cond b (record x { nodes = with_made x.peers number x.nodes }) x).queue ≡ []) [ true ↦ is | false ↦ is ]
-
 pub committed_begins : (o : Opening) → CommittedBelowClock (opening_state o)
 committed_begins o = record {
-  below = λ q x f is_peer h even. absurd (subst (λ queue. Has queue f) (opening_empty o q x is_peer) h);
+  below = λ q x f is_peer h even. absurd (subst (λ queue. Has queue f) (opening_queue o q x is_peer) h);
 }

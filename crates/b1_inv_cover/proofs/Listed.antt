@@ -42,7 +42,7 @@ use Rattle.b1_model.specs.MachineEvents.{happens, begin_by, stage_by, destroy_by
 use Rattle.b1_model.specs.MachineStep.{Step, opening_state, peer_records, record_of_state}
 use Rattle.b1_step.specs.Rights.{Has}
 use Rattle.b1_step.proofs.Clocks.{rises}
-use Rattle.b1_step.proofs.Lists.{has_append, has_left}
+use Rattle.b1_step.proofs.Lists.{has_append, has_left, has_right}
 use Rattle.b1_step.proofs.Locality.{as_many_peers, as_many_drivers}
 use Rattle.b1_inv.specs.Words.{IsPeer, IsDriver}
 use Rattle.b1_inv.specs.Sound.{IsSound}
@@ -71,10 +71,6 @@ BringsLow bound (out.Local got) = AnswerLow bound got
 BringsLow bound outcome = ⊤
 
 -- ---- calls
-
-has_right : (xs ys : List Call) (c : Call) → Has ys c → Has (xs ++ ys) c
-has_right [] ys c h = h
-has_right (x ∷ xs) ys c h = inr (has_right xs ys c h)
 
 -- an answer with a stamp is no attempt that waits, so its call stands
 call_there : (command : Command) (got : Answer) (stamp : ℕ) → seen_stamp got ≡ Some stamp → Has {X = Call} (call_of command got) (record { command = as_call command; answer = got })

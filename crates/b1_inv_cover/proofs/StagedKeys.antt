@@ -32,11 +32,11 @@ use Rattle.b1_inv_record.specs.Epochs.{is_unstaging}
 use Rattle.b1_inv_tools.proofs.Comes.{Comes, queue_comes}
 use Rattle.b1_inv_tools.proofs.Facts.{even_is}
 use Rattle.b1_inv_tools.proofs.Leaves.{driver_cases, peer_cases, new_peer}
-use Rattle.b1_inv_sends.proofs.StagesKept.{stages_kept}
+use Rattle.b1_inv_sends.proofs.StagesKept.{opening_queue, stages_kept}
 use Rattle.b1_inv_notices.proofs.NoticesLaw.{notices_kept}
 use Rattle.b1_inv_notices.proofs.Turns.{doing_in, opened, answered, took_leaves, parts, going, going_doing, going_action, going_answer}
 use Rattle.b1_inv_notices.proofs.StampsLaw.{fixed_before}
-use Rattle.b1_inv_cover.proofs.Came.{new_entry, opening_empty}
+use Rattle.b1_inv_cover.proofs.Came.{new_entry}
 use Rattle.b1_inv_cover.proofs.Collects.{holds, Collected, MoreIn, more_none, more_turn}
 
 -- ---- a staged entry's driver has a command that holds it
@@ -205,6 +205,6 @@ module _ {o : Opening} {s : State} {p : ℕ} {c : Option Command} {t : State} (s
 
 pub staged_begins : (o : Opening) → StagedKeysRight (opening_state o)
 staged_begins o = record {
-  clock = λ q x f is_peer h odd. absurd (subst (λ queue. Has queue f) (opening_empty o q x is_peer) h);
-  collected = λ q x f d doing is_peer h odd foreign is_driver is un. absurd (subst (λ queue. Has queue f) (opening_empty o q x is_peer) h);
+  clock = λ q x f is_peer h odd. absurd (subst (λ queue. Has queue f) (opening_queue o q x is_peer) h);
+  collected = λ q x f d doing is_peer h odd foreign is_driver is un. absurd (subst (λ queue. Has queue f) (opening_queue o q x is_peer) h);
 }

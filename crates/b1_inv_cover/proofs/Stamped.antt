@@ -1,7 +1,7 @@
 -- What an answer makes of a command that has its stamp; and the parts of a step.
 use Rattle.std.proofs.Common.{◌≡◌, refl, sym, ap, subst, ◌∙◌, inl, inr, ℕ, ◌+◌, ◌<◌, ◌≤◌, Bool, true, false, cond, Option, Some, None, Ok, Err, nat_lt, length}
 use Rattle.std.specs.Prelude.{⊤}
-use Rattle.std.proofs.lemmas.Bool.{cases_lt, le-ltb, lt-ltb}
+use Rattle.std.proofs.lemmas.Bool.{ltb-true, ltb-false}
 use Rattle.std.proofs.lemmas.Option.{same_Some}
 use Rattle.b1_model.specs.declared.commands.Command.{Command}
 use Rattle.b1_model.specs.declared.naming.Opening.{Opening}
@@ -77,14 +77,8 @@ module _ (R : ℕ → Phase → Type 0) (command : Command) where
   in_notices d stamp at (there, past) = by (nat_lt at (length d.staged)) refl
     where
       by : (b : Bool) → nat_lt at (length d.staged) ≡ b → Stamped R (Some (doing_in command (cond b (SyncingNotices d stamp at) (CommittingOwn d stamp))))
-      by true is = of_stamp (SyncingNotices d stamp at) stamp refl (there (below is))
-        where
-          below : nat_lt at (length d.staged) ≡ true → at < length d.staged
-          below is = elim (cases_lt at (length d.staged)) [ inl low ↦ low | inr high ↦ let both : true ≡ false = sym is ∙ le-ltb at (length d.staged) high in absurd (cc both) ]
-      by false is = of_stamp (CommittingOwn d stamp) stamp refl (past (above is))
-        where
-          above : nat_lt at (length d.staged) ≡ false → length d.staged ≤ at
-          above is = elim (cases_lt at (length d.staged)) [ inl low ↦ let both : true ≡ false = sym (lt-ltb at (length d.staged) low) ∙ is in absurd (cc both) | inr high ↦ high ]
+      by true is = of_stamp (SyncingNotices d stamp at) stamp refl (there (ltb-true at (length d.staged) is))
+      by false is = of_stamp (CommittingOwn d stamp) stamp refl (past (ltb-false at (length d.staged) is))
 
   in_commits : (d : Destruction) (stamp at : ℕ) → R stamp (CommittingNotices d stamp at) → OnTurn command (Stamped R) (committing_notices command d stamp at)
   in_commits d stamp at h = by (nat_lt at (length d.staged)) (is_flushing command)

@@ -1,7 +1,7 @@
 -- The recipients and the holders that a stamped command has synced have clocks at least its stamp.
 use Rattle.std.proofs.Common.{◌≡◌, ◌⊎◌, refl, sym, ap, subst, ◌∙◌, inl, inr, ℕ, zero, suc, ◌+◌, ◌<◌, ◌≤◌, Bool, true, false, ◌&&◌, nat_lt, List, [], ◌∷◌, take, length, get_or, Option, Some, None, Ok}
 use Rattle.std.specs.Prelude.{slice_get}
-use Rattle.std.proofs.lemmas.Bool.{cases_lt, lt-ltb, le-ltb, and_parts}
+use Rattle.std.proofs.lemmas.Bool.{ltb-true, cases_lt, lt-ltb, and_parts}
 use Rattle.std.proofs.lemmas.Option.{get_or_from_slice_get}
 use native.Mathlib.Omega.{arith}
 use Rattle.b1_model.specs.declared.commands.Command.{Command}
@@ -46,9 +46,6 @@ PlaceFrom phase outcome at stamp after = is_synced_place after at ≡ true → (
 abbrev pub PeerFrom : ℕ → Phase → Outcome → ℕ → ℕ → Phase → Type 0
 PeerFrom me phase outcome q stamp after = Has (synced_peers after) q → (stamp_of_phase phase ≡ Some stamp) × (Has (synced_peers phase) q ⊎ IsSyncOf me phase outcome q)
 
-below : (m n : ℕ) → nat_lt m n ≡ true → m < n
-below m n is = elim (cases_lt m n) [ inl low ↦ low | inr high ↦ let both : true ≡ false = sym is ∙ le-ltb m n high in absurd (cc both) ]
-
 both_true : (m n : ℕ) (b : Bool) → m < n → b ≡ true → (nat_lt m n && b) ≡ true
 both_true m n b low is = rw (lt-ltb m n low, is) refl
 
@@ -63,7 +60,7 @@ passed sending stamp place at low is =
 within : (sending : Sending) (from at : ℕ) → is_place (accepted_from from sending.places) sending.places ≡ true → (nat_lt at (accepted_from from sending.places) && is_accepted_place sending.places at) ≡ true → (at < from) × (is_accepted_place sending.places at ≡ true)
 within sending from at is synced =
     let k = and_parts (nat_lt at (accepted_from from sending.places)) (is_accepted_place sending.places at) synced in
-    let low = below at (accepted_from from sending.places) k.0 in
+    let low = ltb-true at (accepted_from from sending.places) k.0 in
     (elim (cases_lt at from) [ inl before ↦ before | inr behind ↦ let least = next_before from sending.places at k.1 behind in absurd (omega (arith, least, low)) ], k.1)
 
 ended : (sending : Sending) (from at : ℕ) → is_place (accepted_from from sending.places) sending.places ≡ false → is_accepted_place sending.places at ≡ true → at < from
