@@ -26,9 +26,9 @@ pub fn clocks_stay_bounded()
     ensures { (o : Opening) (s : State) → IsSound o s → ClocksBounded s }
 {}
 
-/// A step never lowers a peer's count of given numbers, and each number that a handle record gets is the next one at that
-/// time. So over every list of steps no number is given twice: where a peer's number names a node before and after them,
-/// it names the same node.
+/// A step never lowers a peer's count of given numbers, and a number that a handle record has anew after it is one of those
+/// from the old count up to the new one. So over every list of steps a number of a peer's that names a node before and
+/// after them names the same node.
 pub fn given_numbers_are_new()
     ensures step { EachStep (λ o s p c t step. GivenRises s t) }
     ensures node { (o : Opening) (s : State) (steps : List Label) (t : State) → IsSound o s → Leads o s steps t → NumbersStay s t }
