@@ -1,0 +1,12 @@
+pub mod Stamped
+pub mod Above
+pub mod Synced
+pub mod Came
+pub mod Listed
+pub mod Owed
+pub mod Collects
+pub mod StagedKeys
+pub mod Covers
+pub mod Bounded
+pub mod Given
+pub mod GivenRuns

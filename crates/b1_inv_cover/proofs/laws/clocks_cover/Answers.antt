@@ -1,0 +1,8 @@
+use Rattle.b1_inv_cover.proofs.Covers.{covers_begin, covers_kept}
+use Rattle.b1_inv_cover.proofs.laws.clocks_cover.Goals as goal
+
+pub returns-clause-opening : goal.returns-clause-opening
+returns-clause-opening c = λ o valid. covers_begin o valid
+
+pub returns-clause-kept : goal.returns-clause-kept
+returns-clause-kept c = λ o s p command t sound right step. covers_kept sound right.clocks step
