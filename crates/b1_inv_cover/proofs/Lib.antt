@@ -10,3 +10,4 @@ pub mod Covers
 pub mod Bounded
 pub mod Given
 pub mod GivenRuns
+pub mod Reached
