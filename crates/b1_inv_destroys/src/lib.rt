@@ -1,0 +1,6 @@
+//! Destructions and their notices, as the record has them, over every list of steps.
+#![tactic(auto)]
+
+mod laws;
+
+pub use laws::{destructions_stay_own};
