@@ -4,10 +4,27 @@ ghost use Rattle.b1_model.specs.declared.commands.Command.{Command};
 ghost use Rattle.b1_model.specs.Opening.{IsOpening};
 ghost use Rattle.b1_model.specs.MachineParts.{State};
 ghost use Rattle.b1_model.specs.MachineStep.{Step, opening_state};
+ghost use Rattle.b1_inv.specs.Sound.{IsSound};
+ghost use Rattle.b1_inv_record.specs.Destructions.{ForeignNoticeRight};
+ghost use Rattle.b1_inv_record.specs.Right.{IsRight};
 ghost use Rattle.b1_inv_destroys.specs.Numbers.{DestroysOwn};
+ghost use Rattle.b1_inv_destroys.specs.OwnNotices.{OwnKeyed};
 
 /// Every NODES_DESTROY that destroys names own numbers alone, and every bus begins so.
 pub fn destructions_stay_own()
     ensures opening_DestroysOwn { (o : Opening) → IsOpening o → DestroysOwn (opening_state o) }
     ensures kept_DestroysOwn { (o : Opening) (s : State) (p : ℕ) (c : Option Command) (t : State) → DestroysOwn s → Step o s p c t → DestroysOwn t }
+{}
+
+/// A step keeps the committed notices of other peers' nodes under the keys of the record's destructions, and dead
+/// records of destroyed nodes without a queued notice; every bus begins so.
+pub fn notices_of_others_stay_right()
+    ensures opening_ForeignNoticeRight { (o : Opening) → IsOpening o → ForeignNoticeRight o (opening_state o) }
+    ensures kept_ForeignNoticeRight { (o : Opening) (s : State) (p : ℕ) (c : Option Command) (t : State) → IsSound o s → IsRight o s → DestroysOwn s → Step o s p c t → ForeignNoticeRight o t }
+{}
+
+/// A step keeps committed own notices under the keys of the record's destructions, and every bus begins so.
+pub fn own_notices_stay_right()
+    ensures opening_OwnKeyed { (o : Opening) → IsOpening o → OwnKeyed o (opening_state o) }
+    ensures kept_OwnKeyed { (o : Opening) (s : State) (p : ℕ) (c : Option Command) (t : State) → IsSound o s → IsRight o s → DestroysOwn s → Step o s p c t → OwnKeyed o t }
 {}
