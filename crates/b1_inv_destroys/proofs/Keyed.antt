@@ -49,13 +49,13 @@ AllKeyed o s = (q : ℕ) (x : PeerPart) (f : Key × Entry) → IsPeer s q x → 
 odd_is : (n : ℕ) → n % 2 ≡ 0 → is_odd (n + 1) ≡ true
 odd_is n even = let one : (n + 1) % 2 ≡ 1 = omega (arith, even) in ap (λ m. m == 1) one
 
-message_none : (q : ℕ) (slots : List Slot) (e : Entry) → is_data e ≡ true → notice_node q (with_slots slots e) ≡ None
+pub message_none : (q : ℕ) (slots : List Slot) (e : Entry) → is_data e ≡ true → notice_node q (with_slots slots e) ≡ None
 message_none q slots (Message origin user index serial offset len nodes old handles payload) is = refl
 message_none q slots (OwnNotice serial index) is = absurd (cc is)
 message_none q slots (ForeignNotice node index) is = absurd (cc is)
 message_none q slots (ReleaseNotice serial) is = absurd (cc is)
 
-stage_is_message : (origin index : ℕ) (f : Key × Entry) → is_stage origin index f ≡ true → is_data f.1 ≡ true
+pub stage_is_message : (origin index : ℕ) (f : Key × Entry) → is_stage origin index f ≡ true → is_data f.1 ≡ true
 stage_is_message origin index f is = (and_parts (is_data f.1) (is_staged f) (and_parts (is_data f.1 && is_staged f) (f.0.origin == origin) (and_parts (is_data f.1 && is_staged f && (f.0.origin == origin)) (f.0.index == index) is).0).0).0
 
 three : (a b c : Bool) → (not a && b && c) ≡ true → (b ≡ true) × (c ≡ true)

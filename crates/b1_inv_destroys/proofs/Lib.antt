@@ -6,3 +6,5 @@ pub mod Keyed
 pub mod Dead
 pub mod Foreign
 pub mod Before
+pub mod Nodes
+pub mod Taken

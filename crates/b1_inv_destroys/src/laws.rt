@@ -8,7 +8,7 @@ ghost use Rattle.b1_inv.specs.Sound.{IsSound};
 ghost use Rattle.b1_inv_record.specs.Destructions.{ForeignNoticeRight};
 ghost use Rattle.b1_inv_record.specs.Right.{IsRight};
 ghost use Rattle.b1_inv_destroys.specs.Numbers.{DestroysOwn};
-ghost use Rattle.b1_inv_destroys.specs.OwnNotices.{OwnKeyed};
+ghost use Rattle.b1_inv_destroys.specs.OwnNotices.{OwnKeyed, OwnOnce, OwnUntaken, TakenDestroyed};
 
 /// Every NODES_DESTROY that destroys names own numbers alone, and every bus begins so.
 pub fn destructions_stay_own()
@@ -23,8 +23,15 @@ pub fn notices_of_others_stay_right()
     ensures kept_ForeignNoticeRight { (o : Opening) (s : State) (p : ℕ) (c : Option Command) (t : State) → IsSound o s → IsRight o s → DestroysOwn s → Step o s p c t → ForeignNoticeRight o t }
 {}
 
-/// A step keeps committed own notices under the keys of the record's destructions, and every bus begins so.
+/// A step keeps committed own notices under the keys of the record's destructions, one of a node at most, none of a
+/// node whose notice was taken, and those nodes destroyed; every bus begins so.
 pub fn own_notices_stay_right()
     ensures opening_OwnKeyed { (o : Opening) → IsOpening o → OwnKeyed o (opening_state o) }
     ensures kept_OwnKeyed { (o : Opening) (s : State) (p : ℕ) (c : Option Command) (t : State) → IsSound o s → IsRight o s → DestroysOwn s → Step o s p c t → OwnKeyed o t }
+    ensures opening_OwnOnce { (o : Opening) → IsOpening o → OwnOnce (opening_state o) }
+    ensures kept_OwnOnce { (o : Opening) (s : State) (p : ℕ) (c : Option Command) (t : State) → IsSound o s → IsRight o s → Step o s p c t → OwnOnce t }
+    ensures opening_OwnUntaken { (o : Opening) → IsOpening o → OwnUntaken (opening_state o) }
+    ensures kept_OwnUntaken { (o : Opening) (s : State) (p : ℕ) (c : Option Command) (t : State) → IsSound o s → IsRight o s → Step o s p c t → OwnUntaken t }
+    ensures opening_TakenDestroyed { (o : Opening) → IsOpening o → TakenDestroyed (opening_state o) }
+    ensures kept_TakenDestroyed { (o : Opening) (s : State) (p : ℕ) (c : Option Command) (t : State) → IsSound o s → IsRight o s → Step o s p c t → TakenDestroyed t }
 {}
