@@ -8,3 +8,6 @@ pub mod Foreign
 pub mod Before
 pub mod Nodes
 pub mod Taken
+pub mod FirstNode
+pub mod Present
+pub mod DoomedNow

@@ -43,20 +43,20 @@ use Rattle.b1_inv_destroys.proofs.Keyed.{stage_is_message, message_none, notice_
 use Rattle.b1_inv_destroys.proofs.Nodes.{with_same, made_same, is_recv, taken_same, recv_taking, begun_live, live_apart, destroyed_stays}
 use Rattle.b1_inv_sends.proofs.StagesKept.{opening_queue}
 
-abbrev is_own_notice : Entry → Bool
+abbrev pub is_own_notice : Entry → Bool
 is_own_notice (Message origin user index serial offset len nodes slots handles payload) = false
 is_own_notice (OwnNotice serial index) = true
 is_own_notice (ForeignNotice node index) = false
 is_own_notice (ReleaseNotice serial) = false
 
 -- the serial of an own notice
-abbrev own_serial : Entry → ℕ
+abbrev pub own_serial : Entry → ℕ
 own_serial (OwnNotice serial index) = serial
 own_serial e = 0
 
 -- ---- lists
 
-at_or_none : (ns : List NodePart) (serial : ℕ) → ((n : NodePart) × (slice_get ns serial ≡ Some n)) ⊎ (get_or ns serial no_node ≡ no_node)
+pub at_or_none : (ns : List NodePart) (serial : ℕ) → ((n : NodePart) × (slice_get ns serial ≡ Some n)) ⊎ (get_or ns serial no_node ≡ no_node)
 at_or_none [] serial = inr refl
 at_or_none (n ∷ ns) zero = inl (n, refl)
 at_or_none (n ∷ ns) (suc serial) = at_or_none ns serial
@@ -79,11 +79,11 @@ begun_apart command x none = reset_apart x
 
 -- ---- a destruction begins where no command was going on
 
-abbrev is_starting : Phase → Bool
+abbrev pub is_starting : Phase → Bool
 is_starting Starting = true
 is_starting phase = false
 
-abbrev BeginPhase : Phase → Action → Type 0
+abbrev pub BeginPhase : Phase → Action → Type 0
 BeginPhase phase act.BeginDestroy = is_starting phase ≡ true
 BeginPhase phase action = ⊤
 
@@ -99,7 +99,7 @@ begin_phase d command Starting [] = first d.shut command
     first false command = tt
 begin_phase d command phase [] = tt
 
-starting_is : (phase : Phase) → is_starting phase ≡ true → phase ≡ Starting
+pub starting_is : (phase : Phase) → is_starting phase ≡ true → phase ≡ Starting
 starting_is Starting is = refl
 starting_is phase is = absurd (cc is)
 
@@ -151,11 +151,11 @@ module _ {o : Opening} {s : State} {p : ℕ} {c : Option Command} {t : State} (s
 
   -- ---- entries that come
 
-  number : step.driver.me ≡ p
+  pub number : step.driver.me ≡ p
   number = sound.numbered.drivers p step.driver step.is_driver
 
   -- what a staged notice is under its new key
-  under : (k : Key) (serial i stamp : ℕ) (g : Key × Entry) → ◌≡◌ {A = Key × Entry} (k, OwnNotice serial i) (with_stamp stamp g) → Has step.peer.queue g → Has step.peer.queue (g.0, OwnNotice serial i)
+  pub under : (k : Key) (serial i stamp : ℕ) (g : Key × Entry) → ◌≡◌ {A = Key × Entry} (k, OwnNotice serial i) (with_stamp stamp g) → Has step.peer.queue g → Has step.peer.queue (g.0, OwnNotice serial i)
   under k serial i stamp g same has = subst (λ e. Has step.peer.queue (g.0, e)) (ap (λ z. z.1) (sym same)) has
 
   idle : (q : ℕ) → is_starting (parts step).phase ≡ true → is_uncommitted step.driver q ≡ false
@@ -167,7 +167,7 @@ module _ {o : Opening} {s : State} {p : ℕ} {c : Option Command} {t : State} (s
       ]
 
   -- no live node has an own notice where a destruction begins
-  none_live : (k : Key) (i serial : ℕ) → is_starting (parts step).phase ≡ true → step.at ≡ p → Has step.peer.queue (k, OwnNotice serial i) → is_live (node_at step.peer serial).state ≡ true → ⊥
+  pub none_live : (k : Key) (i serial : ℕ) → is_starting (parts step).phase ≡ true → step.at ≡ p → Has step.peer.queue (k, OwnNotice serial i) → is_live (node_at step.peer serial).state ≡ true → ⊥
   none_live k i serial starting here has live = by (is_staged (k, OwnNotice serial i)) refl
     where
       by : (b : Bool) → is_staged (k, OwnNotice serial i) ≡ b → ⊥
@@ -218,10 +218,10 @@ module _ {o : Opening} {s : State} {p : ℕ} {c : Option Command} {t : State} (s
   one_key action k l i j serial begins at (inr a) (inl b) = absurd (old_new action l k j i serial begins at b.0 b.1 a)
   one_key action k l i j serial begins at (inr a) (inr b) = new_new action k l i j serial a b
 
-  came : (f : Key × Entry) → Has step.new_peer.queue f → ComesOrWas o (going step) (going_doing step) step.peer (going_action step) f
+  pub came : (f : Key × Entry) → Has step.new_peer.queue f → ComesOrWas o (going step) (going_doing step) step.peer (going_action step) f
   came f has = queue_comes o (going step) (going_doing step) f step.local.memory (going_action step) step.peer (subst (λ y. Has y.queue f) (sym (parts step).is_peer) has)
 
-  begins_here : BeginPhase (parts step).phase (going_action step)
+  pub begins_here : BeginPhase (parts step).phase (going_action step)
   begins_here = begin_phase step.driver (parts step).command (parts step).phase step.driver.owed
 
   pub own_once : OwnOnce t
