@@ -11,3 +11,4 @@ pub mod Taken
 pub mod FirstNode
 pub mod Present
 pub mod DoomedNow
+pub mod Staged
