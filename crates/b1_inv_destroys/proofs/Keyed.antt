@@ -46,7 +46,7 @@ IsKeyed o s q f = (node : NodeRef) → notice_node q f.1 ≡ Some node → is_st
 abbrev pub AllKeyed : Opening → State → Type 0
 AllKeyed o s = (q : ℕ) (x : PeerPart) (f : Key × Entry) → IsPeer s q x → Has x.queue f → IsKeyed o s q f
 
-odd_is : (n : ℕ) → n % 2 ≡ 0 → is_odd (n + 1) ≡ true
+pub odd_is : (n : ℕ) → n % 2 ≡ 0 → is_odd (n + 1) ≡ true
 odd_is n even = let one : (n + 1) % 2 ≡ 1 = omega (arith, even) in ap (λ m. m == 1) one
 
 pub message_none : (q : ℕ) (slots : List Slot) (e : Entry) → is_data e ≡ true → notice_node q (with_slots slots e) ≡ None

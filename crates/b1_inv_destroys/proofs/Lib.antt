@@ -12,3 +12,4 @@ pub mod FirstNode
 pub mod Present
 pub mod DoomedNow
 pub mod Staged
+pub mod StagedKept

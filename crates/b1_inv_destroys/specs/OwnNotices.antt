@@ -5,7 +5,7 @@ use Rattle.b1_model.specs.declared.naming.Opening.{Opening}
 use Rattle.b1_model.specs.declared.entries.Entry.TheVariants.{OwnNotice}
 use Rattle.b1_model.specs.MachineParts.{PeerPart, DriverPart, NodePart, State, is_staged, is_destroyed, node_at}
 use Rattle.b1_step.specs.Rights.{Has}
-use Rattle.b1_inv.specs.Words.{IsPeer, IsDriver}
+use Rattle.b1_inv.specs.Words.{IsPeer, IsDriver, is_uncommitted}
 use Rattle.b1_inv.specs.Notices.{doomed_now}
 use Rattle.b1_inv_record.specs.Epochs.{first_done}
 use Rattle.b1_inv_record.specs.Destructions.{own_ref, doomed_key}
@@ -33,3 +33,8 @@ OwnPresent o s = (p i serial : ℕ) (x : PeerPart) (k : Key) → IsPeer s p x �
 -- an open destruction dooms nodes of the part's epoch
 abbrev pub DoomedPresent : Opening → State → Type 0
 DoomedPresent o s = (p serial : ℕ) (d : DriverPart) → IsDriver s p d → Has (doomed_now d) serial → first_done o s p ≤ serial
+
+-- a doomed node's own notice is staged at its place until the commit at its own peer
+abbrev pub OwnStaged : State → Type 0
+OwnStaged s = (p i serial : ℕ) (d : DriverPart) (x : PeerPart) → IsDriver s p d → IsPeer s p x → slice_get (doomed_now d) i ≡ Some serial → is_uncommitted d p ≡ true
+    → (k : Key) × Has x.queue (k, OwnNotice serial i) × (is_staged (k, OwnNotice serial i) ≡ true)

@@ -8,7 +8,7 @@ ghost use Rattle.b1_inv.specs.Sound.{IsSound};
 ghost use Rattle.b1_inv_record.specs.Destructions.{ForeignNoticeRight};
 ghost use Rattle.b1_inv_record.specs.Right.{IsRight};
 ghost use Rattle.b1_inv_destroys.specs.Numbers.{DestroysOwn};
-ghost use Rattle.b1_inv_destroys.specs.OwnNotices.{OwnKeyed, OwnOnce, OwnUntaken, TakenDestroyed, OwnPresent, DoomedPresent};
+ghost use Rattle.b1_inv_destroys.specs.OwnNotices.{OwnKeyed, OwnOnce, OwnUntaken, TakenDestroyed, OwnPresent, OwnStaged, DoomedPresent};
 
 /// Every NODES_DESTROY that destroys names own numbers alone, and every bus begins so.
 pub fn destructions_stay_own()
@@ -23,9 +23,9 @@ pub fn notices_of_others_stay_right()
     ensures kept_ForeignNoticeRight { (o : Opening) (s : State) (p : ℕ) (c : Option Command) (t : State) → IsSound o s → IsRight o s → DestroysOwn s → Step o s p c t → ForeignNoticeRight o t }
 {}
 
-/// A step keeps committed own notices under the keys of the record's destructions, one of a node at most, none of a
-/// node whose notice was taken or that isn't of the part's epoch, and nodes whose notice was taken destroyed; every
-/// bus begins so.
+/// A step keeps own notices staged at their places until the commit at their own peer, and committed ones under the
+/// keys of the record's destructions; one of a node at most, none of a node whose notice was taken or that isn't of
+/// the part's epoch; and nodes whose notice was taken destroyed. Every bus begins so.
 pub fn own_notices_stay_right()
     ensures opening_OwnKeyed { (o : Opening) → IsOpening o → OwnKeyed o (opening_state o) }
     ensures kept_OwnKeyed { (o : Opening) (s : State) (p : ℕ) (c : Option Command) (t : State) → IsSound o s → IsRight o s → DestroysOwn s → Step o s p c t → OwnKeyed o t }
@@ -37,6 +37,8 @@ pub fn own_notices_stay_right()
     ensures kept_TakenDestroyed { (o : Opening) (s : State) (p : ℕ) (c : Option Command) (t : State) → IsSound o s → IsRight o s → Step o s p c t → TakenDestroyed t }
     ensures opening_OwnPresent { (o : Opening) → IsOpening o → OwnPresent o (opening_state o) }
     ensures kept_OwnPresent { (o : Opening) (s : State) (p : ℕ) (c : Option Command) (t : State) → IsSound o s → IsRight o s → Step o s p c t → OwnPresent o t }
+    ensures opening_OwnStaged { (o : Opening) → IsOpening o → OwnStaged (opening_state o) }
+    ensures kept_OwnStaged { (o : Opening) (s : State) (p : ℕ) (c : Option Command) (t : State) → IsSound o s → IsRight o s → Step o s p c t → OwnStaged t }
 {}
 
 /// A step keeps open destructions to nodes of their peer's epoch, and every bus begins so.

@@ -1,6 +1,7 @@
 use Rattle.b1_inv_destroys.proofs.Before.{own_keyed, own_keyed_begins}
 use Rattle.b1_inv_destroys.proofs.Taken.{own_once, once_begins, own_untaken, untaken_begins, taken_destroyed, taken_begins}
 use Rattle.b1_inv_destroys.proofs.Present.{own_present, present_begins}
+use Rattle.b1_inv_destroys.proofs.StagedKept.{own_staged, staged_begins}
 use Rattle.b1_inv_destroys.proofs.laws.own_notices_stay_right.Goals as goal
 
 pub returns-clause-opening_OwnKeyed : goal.returns-clause-opening_OwnKeyed
@@ -32,3 +33,9 @@ returns-clause-opening_OwnPresent c = λ o valid. present_begins o
 
 pub returns-clause-kept_OwnPresent : goal.returns-clause-kept_OwnPresent
 returns-clause-kept_OwnPresent c = λ o s p command t sound right step. own_present sound right step
+
+pub returns-clause-opening_OwnStaged : goal.returns-clause-opening_OwnStaged
+returns-clause-opening_OwnStaged c = λ o valid. staged_begins o
+
+pub returns-clause-kept_OwnStaged : goal.returns-clause-kept_OwnStaged
+returns-clause-kept_OwnStaged c = λ o s p command t sound right step. own_staged sound right step
