@@ -1,5 +1,5 @@
 -- Dead records: each is of a node that the record destroys, and has no notice queued.
-use Rattle.std.proofs.Common.{◌≡◌, ◌⊎◌, refl, sym, ap, subst, ◌∙◌, inl, inr, ℕ, zero, suc, ◌+◌, Bool, true, false, cond, ◌&&◌, not, List, [], ◌∷◌, drop, fold, zip, length, take_while, Option, Some, None}
+use Rattle.std.proofs.Common.{◌≡◌, refl, sym, ap, subst, ◌∙◌, inl, inr, ℕ, suc, ◌+◌, Bool, true, false, cond, ◌&&◌, not, List, [], ◌∷◌, drop, fold, zip, length, take_while, Option, Some, None}
 use Rattle.std.specs.Prelude.{⊤, take}
 use Rattle.std.specs.List.{prefix_len}
 use native.Mathlib.Omega.{arith}

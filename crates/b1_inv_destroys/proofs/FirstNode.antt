@@ -1,5 +1,5 @@
 -- The serial of the first node of the epoch of a peer's part: only a flush changes it.
-use Rattle.std.proofs.Common.{◌≡◌, ◌≢◌, ◌⊎◌, refl, sym, ap, subst, ◌∙◌, inl, inr, ℕ, zero, suc, ◌+◌, ◌<◌, Bool, true, false, cond, ◌&&◌, not, nat_lt, List, [], ◌∷◌, ◌++◌, drop, filter, get_or, length, Option, Some, None, Ok, Err, Result, append-nil}
+use Rattle.std.proofs.Common.{◌≡◌, ◌≢◌, ◌⊎◌, refl, sym, ap, subst, ◌∙◌, inl, inr, ℕ, suc, ◌+◌, Bool, true, false, cond, ◌&&◌, not, nat_lt, List, [], ◌∷◌, ◌++◌, drop, filter, get_or, length, Option, Some, None, Ok, Err, Result, append-nil}
 use Rattle.std.specs.Prelude.{slice_get, ⊤}
 use Rattle.std.proofs.lemmas.List.{append_assoc}
 use Rattle.std.proofs.lemmas.Bool.{cases_eq}
@@ -37,11 +37,11 @@ use Rattle.b1_model.specs.MachinePool.{is_received}
 use Rattle.b1_model.specs.MachineSend.{send_refusal}
 use Rattle.b1_model.specs.MachineReceive.{received}
 use Rattle.b1_model.specs.MachineDriver.{accepted_from, is_place, attaching, with_slot, all_staged, staging, all_refused, memory_place, refused_at, unstaging, syncing, visiting, with_visit, syncing_notices, committing_notices, destroying, is_flushing, send_of, recv_answer, started, turn, next_action, Turn, Goes, Ends}
-use Rattle.b1_model.specs.MachineTook.{answer_of, stamped_answer, is_waiting, as_call, call_of, fixed_call, open_by, goes_by, is_done, turned, with_facts, took}
+use Rattle.b1_model.specs.MachineTook.{answer_of, is_waiting, as_call, call_of, fixed_call, goes_by, is_done, turned, with_facts}
 use Rattle.b1_model.specs.MachineEvents.{happens, begin_by, stage_by, destroy_by, begin_refusal, begin_serials, local_answer}
 use Rattle.b1_model.specs.MachineStep.{Step}
 use Rattle.b1_step.specs.Rights.{Has}
-use Rattle.b1_inv_record.specs.Epochs.{awaits_flush, in_gap, made_before, flushed_calls, first_done}
+use Rattle.b1_inv_record.specs.Epochs.{awaits_flush, made_before, flushed_calls, first_done}
 use Rattle.b1_inv_notices.proofs.Turns.{doing_in, opened, answered, parts, going, going_doing, going_action, going_answer}
 
 -- ---- calls that are no flush leave it

@@ -1,6 +1,6 @@
 -- Notices of other peers' nodes, and dead records, against the record's destructions.
-use Rattle.std.proofs.Common.{◌≡◌, ◌⊎◌, refl, sym, ap, subst, ◌∙◌, inl, inr, ℕ, ◌<◌, Bool, true, false, cond, List, [], ◌∷◌, length, get_or, Option, Some, None}
-use Rattle.std.specs.Prelude.{⊤, slice_get}
+use Rattle.std.proofs.Common.{◌≡◌, refl, sym, ap, subst, ◌∙◌, inl, inr, ℕ, ◌<◌, Bool, true, false, cond, List, [], ◌∷◌, length, Option, Some}
+use Rattle.std.specs.Prelude.{⊤}
 use Rattle.std.proofs.lemmas.Option.{slice_get_within, get_or_from_slice_get}
 use native.Mathlib.Omega.{arith}
 use Rattle.b1_model.specs.declared.commands.Command.{Command}
@@ -12,11 +12,9 @@ use Rattle.b1_model.specs.declared.entries.Entry.{Entry}
 use Rattle.b1_model.specs.declared.entries.Entry.TheVariants.{Message, OwnNotice, ForeignNotice, ReleaseNotice}
 use Rattle.b1_model.specs.declared.events.Action.{Action}
 use Rattle.b1_model.specs.declared.events.Action.TheVariants as act
-use Rattle.b1_model.specs.declared.events.Destruction.{Destruction}
 use Rattle.b1_model.specs.declared.events.OwedDrop.{OwedDrop}
 use Rattle.b1_model.specs.declared.events.Phase.{Phase}
 use Rattle.b1_model.specs.declared.events.Phase.TheVariants.{Starting, Visiting}
-use Rattle.b1_model.specs.declared.parts.NodeState.{NodeState}
 use Rattle.b1_model.specs.declared.parts.NodeState.TheVariants.{Dying, Destroyed}
 use Rattle.b1_model.specs.Names.{is_own}
 use Rattle.b1_model.specs.MachineParts.{PeerPart, DriverPart, HandleRecord, State, is_staged, is_dying, node_at, no_node}
@@ -25,18 +23,18 @@ use Rattle.b1_model.specs.MachineDriver.{first_action, next_action}
 use Rattle.b1_model.specs.MachineEvents.{doomed_of}
 use Rattle.b1_model.specs.MachineStep.{Step, opening_state, wire_made, wire_held}
 use Rattle.b1_step.specs.Rights.{Has}
-use Rattle.b1_inv.specs.Words.{IsPeer, IsDriver}
+use Rattle.b1_inv.specs.Words.{IsPeer}
 use Rattle.b1_inv.specs.Notices.{DestructionShape}
 use Rattle.b1_inv.specs.Sound.{IsSound}
 use Rattle.b1_inv_record.specs.Destructions.{own_ref, doomed_key, DyingIsDoomed, ForeignNoticeRight}
 use Rattle.b1_inv_tools.proofs.Leaves.{peer_cases}
 use Rattle.b1_inv_tools.proofs.Openings.{opening_each}
 use Rattle.b1_inv_sends.proofs.StagesKept.{opening_queue}
-use Rattle.b1_inv_notices.proofs.Turns.{doing_in, opened, parts, going, going_doing, going_action, get_there}
+use Rattle.b1_inv_notices.proofs.Turns.{opened, parts, going, going_doing, going_action, get_there}
 use Rattle.b1_inv_destroys.specs.Numbers.{DestroysOwn}
 use Rattle.b1_inv_destroys.proofs.Stays.{doomed_stays}
 use Rattle.b1_inv_destroys.proofs.Keyed.{AllKeyed}
-use Rattle.b1_inv_destroys.proofs.Dead.{DeadOk, AllOk, EntryKnown, QueueKnown, Spares, event_dead, ok_made}
+use Rattle.b1_inv_destroys.proofs.Dead.{AllOk, EntryKnown, Spares, event_dead, ok_made}
 
 -- ---- a visit is of a destruction that has no stamp yet
 

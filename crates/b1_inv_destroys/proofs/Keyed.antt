@@ -1,5 +1,5 @@
 -- A committed notice has the key of its node's destruction in the record.
-use Rattle.std.proofs.Common.{◌≡◌, ◌⊎◌, refl, sym, ap, subst, ◌∙◌, inl, inr, ℕ, ◌+◌, ◌%◌, ◌==◌, List, Bool, true, false, ◌&&◌, not, Option, Some, None}
+use Rattle.std.proofs.Common.{◌≡◌, refl, sym, ap, subst, ◌∙◌, inl, inr, ℕ, ◌+◌, ◌%◌, ◌==◌, List, Bool, true, false, ◌&&◌, not, Option, Some, None}
 use Rattle.std.specs.Prelude.{slice_get}
 use Rattle.std.proofs.lemmas.Bool.{and_parts, eqb-true}
 use native.Mathlib.Omega.{arith}
@@ -14,8 +14,8 @@ use Rattle.b1_model.specs.declared.events.Action.TheVariants as act
 use Rattle.b1_model.specs.declared.parts.Slot.{Slot}
 use Rattle.b1_model.specs.MachineParts.{PeerPart, State, is_staged, is_data, is_odd}
 use Rattle.b1_model.specs.MachineTables.{is_staged_notice}
-use Rattle.b1_model.specs.MachineSend.{with_slots, with_stamp}
-use Rattle.b1_model.specs.MachineEvents.{happens, slots_at}
+use Rattle.b1_model.specs.MachineSend.{with_slots}
+use Rattle.b1_model.specs.MachineEvents.{slots_at}
 use Rattle.b1_model.specs.MachineStep.{Step}
 use Rattle.b1_step.specs.Rights.{Has}
 use Rattle.b1_step.proofs.Orders.{find_has}

@@ -1,6 +1,6 @@
 -- What an event leaves of nodes: whose destroy notice was taken, and that the destroyed stay so.
-use Rattle.std.proofs.Common.{◌≡◌, ◌≢◌, ◌⊎◌, refl, sym, ap, subst, ◌∙◌, inl, inr, ℕ, zero, suc, ◌+◌, ◌<◌, ◌≤◌, ◌==◌, Bool, true, false, cond, List, [], ◌∷◌, ◌++◌, drop, fold, zip, replicate, get_or, set, filter, length, Option, Some, None}
-use Rattle.std.specs.Prelude.{slice_get, filter_map}
+use Rattle.std.proofs.Common.{◌≡◌, ◌⊎◌, refl, sym, ap, ◌∙◌, inl, inr, ℕ, zero, suc, ◌+◌, ◌<◌, Bool, true, false, cond, List, [], ◌∷◌, ◌++◌, drop, fold, zip, replicate, get_or, filter, length, Option, Some, None}
+use Rattle.std.specs.Prelude.{filter_map}
 use Rattle.std.specs.Bool.{then_some}
 use Rattle.std.specs.List.{cons_option}
 use Rattle.std.proofs.lemmas.Bool.{cases_eq}
@@ -34,8 +34,8 @@ use Rattle.b1_model.specs.MachineDriver.{send_of}
 use Rattle.b1_model.specs.MachineEvents.{happens, begin_by, destroy_by, begin_refusal, begin_serials, collected_of, doomed_of}
 use Rattle.b1_step.specs.Rights.{Has}
 use Rattle.b1_step.proofs.Changed.{changes}
-use Rattle.b1_inv_tools.proofs.Received.{at_cleared, at_taken}
-use Rattle.b1_inv_notices.proofs.Nodes.{NodesKept, dooms, nodes_kept, doomed_length, undoomed_state, doomed_state}
+use Rattle.b1_inv_tools.proofs.Received.{at_cleared}
+use Rattle.b1_inv_notices.proofs.Nodes.{dooms, nodes_kept, undoomed_state, doomed_state}
 use Rattle.b1_inv_notices.proofs.Sets.{in_or_not}
 
 -- ---- the same nodes' notices were taken

@@ -1,18 +1,15 @@
 -- Destructions name own numbers alone: their begin refuses others, and no event changes an open command.
-use Rattle.std.proofs.Common.{◌≡◌, ◌⊎◌, refl, sym, ap, subst, ◌∙◌, inl, inr, ℕ, zero, suc, ◌+◌, Bool, true, false, cond, ◌&&◌, ◌||◌, ◌==◌, not, nat_lt, List, [], ◌∷◌, ◌++◌, drop, length, get_or, Option, Some, None, Ok, Err, Result}
-use Rattle.std.specs.Prelude.{slice_get, ⊤}
+use Rattle.std.proofs.Common.{◌≡◌, refl, sym, ap, subst, ◌∙◌, inl, inr, ℕ, ◌+◌, Bool, true, false, cond, ◌&&◌, ◌||◌, ◌==◌, not, nat_lt, List, [], ◌∷◌, ◌++◌, length, get_or, Option, Some, None, Ok, Err, Result}
+use Rattle.std.specs.Prelude.{⊤}
 use Rattle.std.specs.List.{list_all, list_any}
-use Rattle.std.specs.Bool.{then_some}
 use Rattle.std.proofs.lemmas.Option.{same_Some}
 use Rattle.b1_model.specs.declared.limits.TheConstants.{MOST_DESTINATIONS}
 use Rattle.b1_model.specs.declared.answers.Receipt.{Receipt}
 use Rattle.b1_model.specs.declared.answers.Front.{Front}
-use native.Mathlib.Omega.{arith}
 use Rattle.b1_model.specs.declared.commands.Command.{Command}
 use Rattle.b1_model.specs.declared.commands.Command.TheVariants as cmd
 use Rattle.b1_model.specs.declared.commands.SendCmd.{SendCmd}
 use Rattle.b1_model.specs.declared.naming.NodeRef.{NodeRef}
-use Rattle.b1_model.specs.declared.naming.Key.{Key}
 use Rattle.b1_model.specs.declared.naming.Opening.{Opening}
 use Rattle.b1_model.specs.declared.answers.Answer.{Answer}
 use Rattle.b1_model.specs.declared.answers.Answer.TheVariants as answer
@@ -21,7 +18,6 @@ use Rattle.b1_model.specs.declared.answers.Reason.TheVariants.{Unknown, Memory, 
 use Rattle.b1_model.specs.declared.answers.Refused.{Refused}
 use Rattle.b1_model.specs.declared.parts.Begun.{Begun}
 use Rattle.b1_model.specs.declared.parts.Received.{Received}
-use Rattle.b1_model.specs.declared.entries.Entry.{Entry}
 use Rattle.b1_model.specs.declared.events.Action.{Action}
 use Rattle.b1_model.specs.declared.events.Action.TheVariants as act
 use Rattle.b1_model.specs.declared.events.Destruction.{Destruction}
@@ -34,18 +30,18 @@ use Rattle.b1_model.specs.declared.events.Phase.TheVariants.{Starting, Staging, 
 use Rattle.b1_model.specs.declared.events.Sending.{Sending}
 use Rattle.b1_model.specs.declared.records.Call.{Call}
 use Rattle.b1_model.specs.Names.{is_own}
-use Rattle.b1_model.specs.MachineParts.{PeerPart, DriverPart, State, is_staged}
+use Rattle.b1_model.specs.MachineParts.{PeerPart, DriverPart, State}
 use Rattle.b1_model.specs.MachinePool.{is_received}
 use Rattle.b1_model.specs.MachineSend.{send_refusal}
 use Rattle.b1_model.specs.MachineReceive.{received}
 use Rattle.b1_model.specs.MachineDestroy.{destroy_refusal, is_bad_destroy, has_repeat}
-use Rattle.b1_model.specs.MachineDriver.{accepted_from, is_place, attaching, with_slot, all_staged, staging, all_refused, memory_place, refused_at, unstaging, syncing, visiting, with_visit, syncing_notices, committing_notices, destroying, is_flushing, send_of, recv_answer, started, turn, Turn, Goes, Ends}
-use Rattle.b1_model.specs.MachineTook.{answer_of, stamped_answer, is_waiting, as_call, call_of, goes_by, is_done, turned, with_facts, took}
+use Rattle.b1_model.specs.MachineDriver.{accepted_from, is_place, attaching, with_slot, all_staged, staging, all_refused, memory_place, refused_at, unstaging, syncing, committing_notices, destroying, is_flushing, send_of, recv_answer, started, turn, Turn, Goes, Ends}
+use Rattle.b1_model.specs.MachineTook.{answer_of, is_waiting, as_call, call_of, goes_by, is_done, turned, with_facts, took}
 use Rattle.b1_model.specs.MachineEvents.{happens, begin_by, stage_by, destroy_by, begin_refusal, begin_serials, local_answer}
 use Rattle.b1_model.specs.MachineStep.{Step, opening_state}
 use Rattle.b1_step.specs.Rights.{Has}
 use Rattle.b1_step.proofs.Lists.{has_append}
-use Rattle.b1_inv.specs.Words.{IsPeer, IsDriver}
+use Rattle.b1_inv.specs.Words.{IsDriver}
 use Rattle.b1_inv_tools.proofs.Leaves.{driver_cases}
 use Rattle.b1_inv_tools.proofs.Openings.{opening_idle}
 use Rattle.b1_inv_notices.proofs.Turns.{doing_in, opened, parts, going, going_doing, going_action, going_answer}

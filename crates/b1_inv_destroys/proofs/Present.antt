@@ -1,30 +1,28 @@
 -- Own notices that are queued are of nodes of the epoch of their peer's part.
-use Rattle.std.proofs.Common.{◌≡◌, ◌≢◌, ◌⊎◌, refl, sym, ap, subst, ◌∙◌, inl, inr, ℕ, ◌+◌, ◌<◌, ◌≤◌, Bool, true, false, List, [], ◌∷◌, ◌++◌, get_or, length, Option, Some, None}
-use Rattle.std.specs.Prelude.{slice_get, ⊤}
-use Rattle.std.proofs.lemmas.Bool.{cases_lt, cases_eq}
+use Rattle.std.proofs.Common.{◌≡◌, refl, sym, ap, subst, ◌∙◌, inl, inr, ℕ, ◌≤◌, Bool, true, false, [], ◌++◌, Option, Some, None}
+use Rattle.std.specs.Prelude.{slice_get}
+use Rattle.std.proofs.lemmas.Bool.{cases_lt}
 use Rattle.std.proofs.lemmas.Option.{get_or_from_slice_get}
 use native.Mathlib.Omega.{arith}
 use Rattle.b1_model.specs.declared.commands.Command.{Command}
 use Rattle.b1_model.specs.declared.naming.Key.{Key}
 use Rattle.b1_model.specs.declared.naming.Opening.{Opening}
-use Rattle.b1_model.specs.declared.entries.Entry.{Entry}
-use Rattle.b1_model.specs.declared.entries.Entry.TheVariants.{Message, OwnNotice, ForeignNotice, ReleaseNotice}
+use Rattle.b1_model.specs.declared.entries.Entry.TheVariants.{OwnNotice}
 use Rattle.b1_model.specs.declared.events.Action.{Action}
 use Rattle.b1_model.specs.declared.events.Action.TheVariants as act
-use Rattle.b1_model.specs.Names.{calls_of}
-use Rattle.b1_model.specs.MachineParts.{PeerPart, NodePart, State, no_node, node_at, is_live, is_destroyed}
+use Rattle.b1_model.specs.MachineParts.{PeerPart, State, no_node, node_at, is_live}
 use Rattle.b1_model.specs.MachineTables.{is_stage}
 use Rattle.b1_model.specs.MachineTook.{open_by, driver_calls}
 use Rattle.b1_model.specs.MachineDriver.{peer_of}
 use Rattle.b1_model.specs.MachineEvents.{happens, begin_serials, slots_at}
-use Rattle.b1_model.specs.MachineStep.{Step, opening_state, record_of_state}
+use Rattle.b1_model.specs.MachineStep.{Step, opening_state}
 use Rattle.b1_step.specs.Rights.{Has}
 use Rattle.b1_step.proofs.Lists.{has_at}
 use Rattle.b1_step.proofs.Orders.{find_has}
-use Rattle.b1_inv.specs.Words.{IsPeer, IsDriver}
+use Rattle.b1_inv.specs.Words.{IsPeer}
 use Rattle.b1_inv.specs.Sound.{IsSound}
 use Rattle.b1_inv_record.specs.Destructions.{own_ref}
-use Rattle.b1_inv_record.specs.Epochs.{first_now, first_done, made_before, flushed_calls}
+use Rattle.b1_inv_record.specs.Epochs.{first_now, first_done, made_before}
 use Rattle.b1_inv_record.specs.Right.{IsRight}
 use Rattle.b1_inv_sends.proofs.StagesKept.{opening_queue}
 use Rattle.b1_inv_tools.proofs.Comes.{Comes}

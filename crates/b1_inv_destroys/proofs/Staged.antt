@@ -1,12 +1,9 @@
 -- A doomed node's own notice is staged at its place until the commit at its own peer.
-use Rattle.std.proofs.Common.{◌≡◌, ◌≢◌, ◌⊎◌, refl, sym, ap, subst, ◌∙◌, inl, inr, ℕ, zero, suc, ◌+◌, ◌%◌, Bool, true, false, cond, ◌&&◌, nat_lt, List, [], ◌∷◌, ◌++◌, drop, get_or, length, Option, Some, None, Ok, Err}
+use Rattle.std.proofs.Common.{◌≡◌, ◌⊎◌, refl, sym, ap, subst, inl, inr, ℕ, zero, suc, ◌+◌, Bool, true, false, cond, ◌&&◌, nat_lt, List, [], ◌∷◌, ◌++◌, drop, get_or, length, Option, Some, None, Ok, Err}
 use Rattle.std.specs.Prelude.{slice_get, ⊤}
-use Rattle.std.proofs.lemmas.Bool.{cases_eq}
 use native.Mathlib.Omega.{arith}
 use Rattle.b1_model.specs.declared.commands.Command.{Command}
-use Rattle.b1_model.specs.declared.commands.SendCmd.{SendCmd}
 use Rattle.b1_model.specs.declared.naming.Key.{Key}
-use Rattle.b1_model.specs.declared.naming.NodeRef.{NodeRef}
 use Rattle.b1_model.specs.declared.naming.Opening.{Opening}
 use Rattle.b1_model.specs.declared.answers.Answer.TheVariants as answer
 use Rattle.b1_model.specs.declared.answers.Reason.{Reason}
@@ -14,7 +11,6 @@ use Rattle.b1_model.specs.declared.answers.Refused.{Refused}
 use Rattle.b1_model.specs.declared.entries.Entry.{Entry}
 use Rattle.b1_model.specs.declared.entries.Entry.TheVariants.{OwnNotice}
 use Rattle.b1_model.specs.declared.parts.Begun.{Begun}
-use Rattle.b1_model.specs.declared.events.Action.{Action}
 use Rattle.b1_model.specs.declared.events.Action.TheVariants as act
 use Rattle.b1_model.specs.declared.events.Destruction.{Destruction}
 use Rattle.b1_model.specs.declared.events.Doing.{Doing}
@@ -22,22 +18,20 @@ use Rattle.b1_model.specs.declared.events.OwedDrop.{OwedDrop}
 use Rattle.b1_model.specs.declared.events.Outcome.{Outcome}
 use Rattle.b1_model.specs.declared.events.Outcome.TheVariants as out
 use Rattle.b1_model.specs.declared.events.Phase.{Phase}
-use Rattle.b1_model.specs.declared.events.Phase.TheVariants.{Starting, Staging, Unstaging, Attaching, Stamping, Syncing, Committing, Dropping, Reaping, Visiting, Dooming, SyncingNotices, CommittingOwn, CommittingNotices, Flushing}
+use Rattle.b1_model.specs.declared.events.Phase.TheVariants.{Starting, Staging, Unstaging, Attaching, Stamping, Syncing, Committing, Visiting, Dooming, SyncingNotices, CommittingOwn, CommittingNotices, Flushing}
 use Rattle.b1_model.specs.declared.events.Sending.{Sending}
-use Rattle.b1_model.specs.MachineParts.{PeerPart, DriverPart, State, is_staged, is_odd, is_release_notice}
-use Rattle.b1_model.specs.MachineTables.{put, without}
+use Rattle.b1_model.specs.MachineParts.{PeerPart, DriverPart, is_release_notice}
+use Rattle.b1_model.specs.MachineTables.{without}
 use Rattle.b1_model.specs.MachineReceive.{with_release_notice, is_released, dropped_refs}
 use Rattle.b1_model.specs.MachineDestroy.{with_own_notices, needs_notice, notice_by, visited_from}
-use Rattle.b1_model.specs.MachineDriver.{accepted_from, is_place, attaching, with_slot, all_staged, staging, all_refused, unstaging, syncing, visiting, with_visit, syncing_notices, committing_notices, destroying, is_flushing, send_of, started, next_action, peer_of, turn, Turn, Goes, Ends}
-use Rattle.b1_model.specs.MachineTook.{took}
-use Rattle.b1_model.specs.MachineEvents.{happens, doomed_of, destroy_by, begin_refusal, begin_serials}
-use Rattle.b1_model.specs.MachineStep.{Step, opening_state}
+use Rattle.b1_model.specs.MachineDriver.{accepted_from, is_place, attaching, with_slot, all_staged, staging, all_refused, unstaging, syncing, visiting, with_visit, syncing_notices, committing_notices, destroying, is_flushing, send_of, started, turn, Turn, Goes, Ends}
+use Rattle.b1_model.specs.MachineEvents.{doomed_of}
 use Rattle.b1_step.specs.Rights.{Has}
 use Rattle.b1_step.proofs.Changed.{changes}
 use Rattle.b1_step.proofs.Queues.{has_put_new, has_put_old, has_without}
-use Rattle.b1_inv.specs.Words.{phase_uncommitted, is_among, staged_peers}
+use Rattle.b1_inv.specs.Words.{phase_uncommitted, staged_peers}
 use Rattle.b1_inv_notices.proofs.Sets.{among_has, drop_has}
-use Rattle.b1_inv_notices.proofs.Turns.{doing_in, opened, answered, OnTurn, may_end, took_leaves}
+use Rattle.b1_inv_notices.proofs.Turns.{doing_in, opened, answered, OnTurn, may_end}
 
 abbrev Queue : Type 0
 Queue = List (Key × Entry)

@@ -1,5 +1,5 @@
 -- Own notices stay staged in every step until their destruction commits them.
-use Rattle.std.proofs.Common.{◌≡◌, ◌≢◌, ◌⊎◌, refl, sym, ap, subst, ◌∙◌, inl, inr, ℕ, ◌+◌, Bool, true, false, List, [], ◌∷◌, Option, Some, None}
+use Rattle.std.proofs.Common.{◌≡◌, ◌≢◌, refl, sym, ap, subst, ◌∙◌, inl, inr, ℕ, ◌+◌, Bool, true, false, List, Option, Some, None}
 use Rattle.std.specs.Prelude.{slice_get}
 use Rattle.std.proofs.lemmas.Option.{slice_get_within}
 use native.Mathlib.Omega.{arith}
@@ -13,7 +13,6 @@ use Rattle.b1_model.specs.declared.entries.Entry.TheVariants.{OwnNotice}
 use Rattle.b1_model.specs.declared.events.Action.{Action}
 use Rattle.b1_model.specs.declared.events.Action.TheVariants as act
 use Rattle.b1_model.specs.declared.events.Doing.{Doing}
-use Rattle.b1_model.specs.declared.events.Outcome.{Outcome}
 use Rattle.b1_model.specs.declared.events.Phase.{Phase}
 use Rattle.b1_model.specs.declared.events.Phase.TheVariants.{Visiting, Dooming, SyncingNotices, CommittingOwn, CommittingNotices}
 use Rattle.b1_model.specs.MachineParts.{PeerPart, DriverPart, State, is_staged}
@@ -28,7 +27,7 @@ use Rattle.b1_inv.specs.Sound.{IsSound}
 use Rattle.b1_inv_record.specs.Right.{IsRight}
 use Rattle.b1_inv_tools.proofs.Leaves.{driver_cases, peer_cases}
 use Rattle.b1_inv_tools.proofs.Openings.{opening_idle}
-use Rattle.b1_inv_notices.proofs.Turns.{doing_in, took_leaves, parts, going, going_doing, going_action, going_answer, get_there}
+use Rattle.b1_inv_notices.proofs.Turns.{took_leaves, parts, going, going_doing, going_action, going_answer, get_there}
 use Rattle.b1_inv_destroys.specs.OwnNotices.{OwnStaged}
 use Rattle.b1_inv_destroys.proofs.Keyed.{odd_is}
 use Rattle.b1_inv_destroys.proofs.Taken.{number}

@@ -1,5 +1,5 @@
 -- A node's key stays in the record from a step to the next.
-use Rattle.std.proofs.Common.{◌≡◌, refl, sym, ap, subst, ◌∙◌, inl, inr, ℕ, Bool, true, false, List, [], ◌∷◌, ◌++◌, Option, Some, None}
+use Rattle.std.proofs.Common.{◌≡◌, refl, sym, subst, ℕ, true, Option, Some, None}
 use Rattle.std.specs.Prelude.{slice_get}
 use Rattle.b1_model.specs.declared.answers.Answer.{Answer}
 use Rattle.b1_model.specs.declared.commands.Command.{Command}
@@ -7,11 +7,9 @@ use Rattle.b1_model.specs.declared.events.Doing.{Doing}
 use Rattle.b1_model.specs.declared.naming.Key.{Key}
 use Rattle.b1_model.specs.declared.naming.NodeRef.{NodeRef}
 use Rattle.b1_model.specs.declared.naming.Opening.{Opening}
-use Rattle.b1_model.specs.Names.{calls_of}
 use Rattle.b1_model.specs.MachineParts.{DriverPart, State}
 use Rattle.b1_model.specs.MachineTook.{answer_of, fixed_call, open_by}
 use Rattle.b1_model.specs.MachineStep.{Step, record_of_state}
-use Rattle.b1_inv.specs.Words.{IsDriver}
 use Rattle.b1_inv.specs.Sound.{IsSound}
 use Rattle.b1_inv_record.specs.Destructions.{doomed_key}
 use Rattle.b1_inv_destroys.specs.Numbers.{names_own, is_destroy, may_destroy, DestroysOwn}

@@ -1,8 +1,7 @@
 -- A node whose own notice was taken is destroyed, and has none queued; no node has two queued.
-use Rattle.std.proofs.Common.{◌≡◌, ◌≢◌, ◌⊎◌, refl, sym, ap, subst, ◌∙◌, inl, inr, ℕ, zero, suc, ◌+◌, ◌<◌, ◌==◌, Bool, true, false, cond, ◌&&◌, not, List, [], ◌∷◌, drop, get_or, length, Option, Some, None}
+use Rattle.std.proofs.Common.{◌≡◌, ◌⊎◌, refl, sym, ap, subst, ◌∙◌, inl, inr, ℕ, zero, suc, ◌+◌, ◌<◌, Bool, true, false, cond, List, [], ◌∷◌, drop, get_or, length, Option, Some, None}
 use Rattle.std.specs.Prelude.{slice_get, ⊤}
 use Rattle.std.proofs.lemmas.Option.{slice_get_within, get_or_from_slice_get}
-use native.Mathlib.Omega.{arith}
 use Rattle.b1_model.specs.declared.commands.Command.{Command}
 use Rattle.b1_model.specs.declared.commands.Command.TheVariants as cmd
 use Rattle.b1_model.specs.declared.naming.Key.{Key}
@@ -14,9 +13,9 @@ use Rattle.b1_model.specs.declared.events.Action.TheVariants as act
 use Rattle.b1_model.specs.declared.events.OwedDrop.{OwedDrop}
 use Rattle.b1_model.specs.declared.events.Phase.{Phase}
 use Rattle.b1_model.specs.declared.events.Phase.TheVariants.{Starting}
-use Rattle.b1_model.specs.MachineParts.{PeerPart, DriverPart, NodePart, State, no_node, node_at, is_data, is_live, is_destroyed, is_staged, key_before}
+use Rattle.b1_model.specs.MachineParts.{PeerPart, DriverPart, NodePart, State, no_node, node_at, is_live, is_destroyed, is_staged, key_before}
 use Rattle.b1_model.specs.MachineTables.{is_stage, is_staged_notice}
-use Rattle.b1_model.specs.MachineSend.{with_slots, with_stamp}
+use Rattle.b1_model.specs.MachineSend.{with_stamp}
 use Rattle.b1_model.specs.MachineReceive.{received_part}
 use Rattle.b1_model.specs.MachineDriver.{first_action, next_action, peer_of}
 use Rattle.b1_model.specs.MachineEvents.{happens, begin_serials, begin_refusal, slots_at}
@@ -40,7 +39,7 @@ use Rattle.b1_inv_notices.proofs.Turns.{doing_in, opened, parts, going, going_do
 use Rattle.b1_inv_notices.proofs.Serials.{reset_apart, accepted_apart}
 use Rattle.b1_inv_destroys.specs.OwnNotices.{OwnOnce, OwnUntaken, TakenDestroyed}
 use Rattle.b1_inv_destroys.proofs.Keyed.{stage_is_message, message_none, notice_node}
-use Rattle.b1_inv_destroys.proofs.Nodes.{with_same, made_same, is_recv, taken_same, recv_taking, begun_live, live_apart, destroyed_stays}
+use Rattle.b1_inv_destroys.proofs.Nodes.{with_same, made_same, taken_same, recv_taking, begun_live, live_apart, destroyed_stays}
 use Rattle.b1_inv_sends.proofs.StagesKept.{opening_queue}
 
 abbrev pub is_own_notice : Entry → Bool

@@ -3,4 +3,7 @@
 
 mod laws;
 
-pub use laws::{destructions_stay_own, doomed_nodes_stay_present, notices_of_others_stay_right, own_notices_stay_right};
+pub use laws::{
+    destructions_stay_own, doomed_nodes_stay_present, notices_of_others_stay_right,
+    own_notices_stay_right,
+};
