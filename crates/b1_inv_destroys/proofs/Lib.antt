@@ -13,3 +13,4 @@ pub mod Present
 pub mod DoomedNow
 pub mod Staged
 pub mod StagedKept
+pub mod Received
