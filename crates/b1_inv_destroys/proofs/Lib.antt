@@ -14,3 +14,4 @@ pub mod DoomedNow
 pub mod Staged
 pub mod StagedKept
 pub mod Received
+pub mod Destroyed
