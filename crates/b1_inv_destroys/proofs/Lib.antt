@@ -1,0 +1,17 @@
+pub mod Recorded
+pub mod Dooms
+pub mod Own
+pub mod Stays
+pub mod Keyed
+pub mod Dead
+pub mod Foreign
+pub mod Before
+pub mod Nodes
+pub mod Taken
+pub mod FirstNode
+pub mod Present
+pub mod DoomedNow
+pub mod Staged
+pub mod StagedKept
+pub mod Received
+pub mod Destroyed
