@@ -1,0 +1,4 @@
+pub mod Effects
+pub mod Recorded
+pub mod Measures
+pub mod Epochs

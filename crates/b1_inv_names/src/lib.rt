@@ -1,0 +1,6 @@
+//! What a peer's calls make of its names and epochs, against its part, over every list of steps.
+#![tactic(auto)]
+
+mod laws;
+
+pub use laws::epochs_stay_counted;
