@@ -2,3 +2,6 @@ pub mod Effects
 pub mod Recorded
 pub mod Measures
 pub mod Epochs
+pub mod Numbers
+pub mod Made
+pub mod MadeFirst

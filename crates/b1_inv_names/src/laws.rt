@@ -5,11 +5,18 @@ ghost use Rattle.b1_model.specs.Opening.{IsOpening};
 ghost use Rattle.b1_model.specs.MachineParts.{State};
 ghost use Rattle.b1_model.specs.MachineStep.{Step, opening_state};
 ghost use Rattle.b1_inv.specs.Sound.{IsSound};
-ghost use Rattle.b1_inv_record.specs.Names.{EpochCounted};
+ghost use Rattle.b1_inv_record.specs.Names.{EpochCounted, MadeNumbers};
 ghost use Rattle.b1_inv_record.specs.Right.{IsRight};
 
 /// A step keeps each peer's epoch as often risen as its calls flush, but for the gap of a reset, and every bus begins so.
 pub fn epochs_stay_counted()
     ensures opening_EpochCounted { (o : Opening) → IsOpening o → EpochCounted (opening_state o) }
     ensures kept_EpochCounted { (o : Opening) (s : State) (p : ℕ) (c : Option Command) (t : State) → IsSound o s → IsRight o s → Step o s p c t → EpochCounted t }
+{}
+
+/// A step keeps the numbers of each peer's nodes those that its calls and its open SEND name, own numbers and each once,
+/// and every bus begins so.
+pub fn made_numbers_stay_right()
+    ensures opening_MadeNumbers { (o : Opening) → IsOpening o → MadeNumbers o (opening_state o) }
+    ensures kept_MadeNumbers { (o : Opening) (s : State) (p : ℕ) (c : Option Command) (t : State) → IsSound o s → IsRight o s → Step o s p c t → MadeNumbers o t }
 {}
