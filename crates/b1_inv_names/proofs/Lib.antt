@@ -5,3 +5,4 @@ pub mod Epochs
 pub mod Numbers
 pub mod Made
 pub mod MadeFirst
+pub mod Begun

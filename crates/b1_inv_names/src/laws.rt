@@ -5,7 +5,7 @@ ghost use Rattle.b1_model.specs.Opening.{IsOpening};
 ghost use Rattle.b1_model.specs.MachineParts.{State};
 ghost use Rattle.b1_model.specs.MachineStep.{Step, opening_state};
 ghost use Rattle.b1_inv.specs.Sound.{IsSound};
-ghost use Rattle.b1_inv_record.specs.Names.{EpochCounted, MadeNumbers};
+ghost use Rattle.b1_inv_record.specs.Names.{BegunNames, EpochCounted, MadeNumbers};
 ghost use Rattle.b1_inv_record.specs.Right.{IsRight};
 
 /// A step keeps each peer's epoch as often risen as its calls flush, but for the gap of a reset, and every bus begins so.
@@ -19,4 +19,10 @@ pub fn epochs_stay_counted()
 pub fn made_numbers_stay_right()
     ensures opening_MadeNumbers { (o : Opening) → IsOpening o → MadeNumbers o (opening_state o) }
     ensures kept_MadeNumbers { (o : Opening) (s : State) (p : ℕ) (c : Option Command) (t : State) → IsSound o s → IsRight o s → Step o s p c t → MadeNumbers o t }
+{}
+
+/// A step keeps the nodes of every open SEND those that its numbers name at its own peer, and every bus begins so.
+pub fn begun_names_stay_right()
+    ensures opening_BegunNames { (o : Opening) → IsOpening o → BegunNames (opening_state o) }
+    ensures kept_BegunNames { (o : Opening) (s : State) (p : ℕ) (c : Option Command) (t : State) → IsSound o s → IsRight o s → Step o s p c t → BegunNames t }
 {}
