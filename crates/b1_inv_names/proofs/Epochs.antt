@@ -44,7 +44,7 @@ epoch_by e command Quiet = e
 epoch_by e command Carries = e
 epoch_by e command Flushes = suc e
 
-epoch_append : (e : ℕ) (xs ys : List Call) → epoch_in e (xs ++ ys) ≡ epoch_in (epoch_in e xs) ys
+pub epoch_append : (e : ℕ) (xs ys : List Call) → epoch_in e (xs ++ ys) ≡ epoch_in (epoch_in e xs) ys
 epoch_append e [] ys = refl
 epoch_append e (c ∷ cs) ys = epoch_append (next_epoch e c.answer) cs ys
 

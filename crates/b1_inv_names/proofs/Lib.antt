@@ -6,3 +6,5 @@ pub mod Numbers
 pub mod Made
 pub mod MadeFirst
 pub mod Begun
+pub mod Shut
+pub mod ShutKept

@@ -5,7 +5,7 @@ ghost use Rattle.b1_model.specs.Opening.{IsOpening};
 ghost use Rattle.b1_model.specs.MachineParts.{State};
 ghost use Rattle.b1_model.specs.MachineStep.{Step, opening_state};
 ghost use Rattle.b1_inv.specs.Sound.{IsSound};
-ghost use Rattle.b1_inv_record.specs.Names.{BegunNames, EpochCounted, MadeNumbers};
+ghost use Rattle.b1_inv_record.specs.Names.{BegunNames, EpochCounted, MadeNumbers, ShutIsEmpty};
 ghost use Rattle.b1_inv_record.specs.Right.{IsRight};
 
 /// A step keeps each peer's epoch as often risen as its calls flush, but for the gap of a reset, and every bus begins so.
@@ -25,4 +25,10 @@ pub fn made_numbers_stay_right()
 pub fn begun_names_stay_right()
     ensures opening_BegunNames { (o : Opening) → IsOpening o → BegunNames (opening_state o) }
     ensures kept_BegunNames { (o : Opening) (s : State) (p : ℕ) (c : Option Command) (t : State) → IsSound o s → IsRight o s → Step o s p c t → BegunNames t }
+{}
+
+/// A step keeps a peer that has disconnected without queue, records and live or dying nodes, and every bus begins so.
+pub fn shut_peers_stay_empty()
+    ensures opening_ShutIsEmpty { (o : Opening) → IsOpening o → ShutIsEmpty (opening_state o) }
+    ensures kept_ShutIsEmpty { (o : Opening) (s : State) (p : ℕ) (c : Option Command) (t : State) → IsSound o s → IsRight o s → Step o s p c t → ShutIsEmpty t }
 {}

@@ -3,4 +3,6 @@
 
 mod laws;
 
-pub use laws::{begun_names_stay_right, epochs_stay_counted, made_numbers_stay_right};
+pub use laws::{
+    begun_names_stay_right, epochs_stay_counted, made_numbers_stay_right, shut_peers_stay_empty,
+};
