@@ -338,7 +338,7 @@ module _ (t : State) where
       away_event y Starting [] apart before = absurd (apart (starting_here command d.shut))
       away_event y phase owed apart before = by_turn y phase owed refl (before refl)
 
-away_kind : (me : ℕ) (action : Action) → peer_of me action ≢ me → may_be_elsewhere action ≡ true
+pub away_kind : (me : ℕ) (action : Action) → peer_of me action ≢ me → may_be_elsewhere action ≡ true
 away_kind me (act.Stage peer place) apart = refl
 away_kind me (act.Unstage peer place) apart = refl
 away_kind me (act.Attach peer serial dest) apart = refl

@@ -8,3 +8,4 @@ pub mod MadeFirst
 pub mod Begun
 pub mod Shut
 pub mod ShutKept
+pub mod Dooming

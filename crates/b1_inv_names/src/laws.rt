@@ -5,6 +5,7 @@ ghost use Rattle.b1_model.specs.Opening.{IsOpening};
 ghost use Rattle.b1_model.specs.MachineParts.{State};
 ghost use Rattle.b1_model.specs.MachineStep.{Step, opening_state};
 ghost use Rattle.b1_inv.specs.Sound.{IsSound};
+ghost use Rattle.b1_inv_names.specs.Doomed.{FlushesDoomAll};
 ghost use Rattle.b1_inv_record.specs.Names.{BegunNames, EpochCounted, MadeNumbers, ShutIsEmpty};
 ghost use Rattle.b1_inv_record.specs.Right.{IsRight};
 
@@ -31,4 +32,11 @@ pub fn begun_names_stay_right()
 pub fn shut_peers_stay_empty()
     ensures opening_ShutIsEmpty { (o : Opening) → IsOpening o → ShutIsEmpty (opening_state o) }
     ensures kept_ShutIsEmpty { (o : Opening) (s : State) (p : ℕ) (c : Option Command) (t : State) → IsSound o s → IsRight o s → Step o s p c t → ShutIsEmpty t }
+{}
+
+/// A step keeps the nodes of a peer whose open reset or disconnect has no stamp yet dying or destroyed, and every bus
+/// begins so.
+pub fn flushes_doom_all()
+    ensures opening_FlushesDoomAll { (o : Opening) → IsOpening o → FlushesDoomAll (opening_state o) }
+    ensures kept_FlushesDoomAll { (o : Opening) (s : State) (p : ℕ) (c : Option Command) (t : State) → IsSound o s → FlushesDoomAll s → Step o s p c t → FlushesDoomAll t }
 {}

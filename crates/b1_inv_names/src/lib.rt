@@ -4,5 +4,5 @@
 mod laws;
 
 pub use laws::{
-    begun_names_stay_right, epochs_stay_counted, made_numbers_stay_right, shut_peers_stay_empty,
+    begun_names_stay_right, epochs_stay_counted, flushes_doom_all, made_numbers_stay_right, shut_peers_stay_empty,
 };
