@@ -1,18 +1,16 @@
 -- An open reset or disconnect dooms all nodes that were live.
-use Rattle.std.proofs.Common.{◌≡◌, ◌≢◌, ◌⊎◌, refl, sym, ap, subst, ◌∙◌, inl, inr, ℕ, zero, suc, ◌+◌, ◌<◌, Bool, true, false, cond, ◌&&◌, nat_lt, List, [], ◌∷◌, ◌++◌, map, set, get_or, drop, length, max, Option, Some, None, Ok, Err, Result}
+use Rattle.std.proofs.Common.{◌≡◌, ◌≢◌, refl, sym, ap, subst, ◌∙◌, inl, inr, ℕ, zero, suc, ◌+◌, ◌<◌, Bool, true, false, cond, ◌&&◌, nat_lt, List, [], ◌∷◌, ◌++◌, map, set, get_or, length, max, Option, Some, None, Ok, Err}
 use Rattle.std.specs.Prelude.{⊤}
 use native.Mathlib.Omega.{arith}
 use Rattle.b1_model.specs.declared.commands.Command.{Command}
 use Rattle.b1_model.specs.declared.commands.Command.TheVariants as cmd
-use Rattle.b1_model.specs.declared.commands.SendCmd.{SendCmd}
 use Rattle.b1_model.specs.declared.naming.Opening.{Opening}
 use Rattle.b1_model.specs.declared.answers.Answer.TheVariants as answer
 use Rattle.b1_model.specs.declared.answers.Reason.{Reason}
 use Rattle.b1_model.specs.declared.answers.Refused.{Refused}
 use Rattle.b1_model.specs.declared.parts.Begun.{Begun}
-use Rattle.b1_model.specs.declared.parts.Owed.{Owed}
 use Rattle.b1_model.specs.declared.parts.NodeState.{NodeState}
-use Rattle.b1_model.specs.declared.parts.NodeState.TheVariants.{Live, Dying, Destroyed}
+use Rattle.b1_model.specs.declared.parts.NodeState.TheVariants.{Dying, Destroyed}
 use Rattle.b1_model.specs.declared.events.Action.{Action}
 use Rattle.b1_model.specs.declared.events.Action.TheVariants as act
 use Rattle.b1_model.specs.declared.events.Destruction.{Destruction}
@@ -21,15 +19,14 @@ use Rattle.b1_model.specs.declared.events.OwedDrop.{OwedDrop}
 use Rattle.b1_model.specs.declared.events.Outcome.{Outcome}
 use Rattle.b1_model.specs.declared.events.Outcome.TheVariants as out
 use Rattle.b1_model.specs.declared.events.Phase.{Phase}
-use Rattle.b1_model.specs.declared.events.Phase.TheVariants.{Starting, Staging, Unstaging, Attaching, Stamping, Syncing, Committing, Dropping, Reaping, Visiting, Dooming, SyncingNotices, CommittingOwn, CommittingNotices, Flushing}
+use Rattle.b1_model.specs.declared.events.Phase.TheVariants.{Starting, Staging, Unstaging, Attaching, Stamping, Syncing, Committing, Visiting, Dooming, SyncingNotices, CommittingOwn, CommittingNotices, Flushing}
 use Rattle.b1_model.specs.declared.events.Sending.{Sending}
 use Rattle.b1_model.specs.MachineParts.{PeerPart, NodePart, DriverPart, State, is_live, no_node}
 use Rattle.b1_model.specs.MachineTables.{with_node, with_nodes, in_state}
 use Rattle.b1_model.specs.MachineSend.{final_stamp}
-use Rattle.b1_model.specs.MachineReceive.{released}
 use Rattle.b1_model.specs.MachineDestroy.{live_serials, reset_serials, doom_by}
-use Rattle.b1_model.specs.MachineDriver.{accepted_from, is_place, attaching, with_slot, all_staged, staging, all_refused, unstaging, syncing, visiting, with_visit, syncing_notices, committing_notices, destroying, is_flushing, send_of, started, turn, Turn, Goes, Ends, first_action, next_action, peer_of}
-use Rattle.b1_model.specs.MachineEvents.{happens, begin_by, destroy_by, begin_refusal, begin_serials, collected_of, doomed_of}
+use Rattle.b1_model.specs.MachineDriver.{accepted_from, is_place, attaching, with_slot, all_staged, staging, all_refused, unstaging, syncing, syncing_notices, committing_notices, is_flushing, send_of, started, turn, Turn, Goes, Ends, first_action, next_action, peer_of}
+use Rattle.b1_model.specs.MachineEvents.{happens, destroy_by, begin_refusal}
 use Rattle.b1_model.specs.MachineStep.{Step, opening_state}
 use Rattle.b1_step.specs.Rights.{node_facts, may_be_elsewhere}
 use Rattle.b1_step.specs.Rights.{Has}
@@ -244,20 +241,20 @@ module _ {o : Opening} {s : State} {p : ℕ} {c : Option Command} {t : State} (s
   own_after : (y : PeerPart) → IsPeer t p y → Doomed y step.new_driver.doing
   own_after y is = elim (peer_cases step p y is) [
     | inl at_it ↦
-      took_doomed y
-      (subst (λ z. OnTurn (parts step).command (Doomed z) (turn step.driver.me (parts step).command (parts step).phase (going_answer step))) ((parts step).is_peer ∙ sym at_it.1)
-      (own_event o step.local.memory step.driver step.peer (parts step).command (parts step).phase step.driver.owed (going_before step.peer (subst (λ r. IsPeer s r step.peer) (sym at_it.0) step.is_peer))))
+        took_doomed y
+        (subst (λ z. OnTurn (parts step).command (Doomed z) (turn step.driver.me (parts step).command (parts step).phase (going_answer step))) ((parts step).is_peer ∙ sym at_it.1)
+        (own_event o step.local.memory step.driver step.peer (parts step).command (parts step).phase step.driver.owed (going_before step.peer (subst (λ r. IsPeer s r step.peer) (sym at_it.0) step.is_peer))))
     | inr away ↦
-      took_doomed y
-      (away_event o step.local.memory step.driver step.peer (parts step).command y (parts step).phase step.driver.owed (λ same. away.0 (sym me_is ∙ sym same ∙ (parts step).is_at)) (going_before y away.1))
+        took_doomed y
+        (away_event o step.local.memory step.driver step.peer (parts step).command y (parts step).phase step.driver.owed (λ same. away.0 (sym me_is ∙ sym same ∙ (parts step).is_at)) (going_before y away.1))
   ]
 
   other_after : (r : ℕ) (d : DriverPart) (y : PeerPart) (doing : Doing) → r ≢ p → IsDriver s r d → IsPeer t r y → d.doing ≡ Some doing → is_flushing doing.command ≡ true → is_unstamped doing.phase ≡ true → NoneLive y.nodes
   other_after r d y doing apart is_driver is open_is flushing un = elim (peer_cases step r y is) [
     | inl at_it ↦
-      subst (λ z. NoneLive z.nodes) ((parts step).is_peer ∙ sym at_it.1)
-      (elsewhere_none o step.local.memory step.driver step.peer (going step) (going_doing step) (going_action step) (away_kind step.driver.me (going_action step) (λ same. apart (at_it.0 ∙ sym (parts step).is_at ∙ same ∙ me_is)))
-      (before.none r d step.peer doing is_driver (subst (λ q. IsPeer s q step.peer) (sym at_it.0) step.is_peer) open_is flushing un))
+        subst (λ z. NoneLive z.nodes) ((parts step).is_peer ∙ sym at_it.1)
+        (elsewhere_none o step.local.memory step.driver step.peer (going step) (going_doing step) (going_action step) (away_kind step.driver.me (going_action step) (λ same. apart (at_it.0 ∙ sym (parts step).is_at ∙ same ∙ me_is)))
+        (before.none r d step.peer doing is_driver (subst (λ q. IsPeer s q step.peer) (sym at_it.0) step.is_peer) open_is flushing un))
     | inr away ↦ before.none r d y doing is_driver away.1 open_is flushing un
   ]
 

@@ -9,3 +9,4 @@ pub mod Begun
 pub mod Shut
 pub mod ShutKept
 pub mod Dooming
+pub mod Gaps

@@ -80,7 +80,7 @@ all_pass E (m ∷ ms) h = by (nat_lt m.epoch E) (lt-ltb m.epoch E h.0) (all_pass
     by true is same = ap suc same
     by false is same = absurd (cc is)
 
-flush_call : (command : Command) (stamp : Option ℕ) → call_of command (answer.Reset stamp) ≡ record { command = as_call command; answer = answer.Reset stamp } ∷ []
+pub flush_call : (command : Command) (stamp : Option ℕ) → call_of command (answer.Reset stamp) ≡ record { command = as_call command; answer = answer.Reset stamp } ∷ []
 flush_call command stamp = by (is_await command)
   where
     by : (b : Bool) → cond {A = List Call} (b && false) [] (record { command = as_call command; answer = answer.Reset stamp } ∷ []) ≡ record { command = as_call command; answer = answer.Reset stamp } ∷ []

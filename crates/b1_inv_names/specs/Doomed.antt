@@ -1,5 +1,5 @@
 -- An open reset or disconnect dooms all nodes that were live: the groups of the record don't say it, and that nodes of earlier epochs are destroyed leans on it.
-use Rattle.std.specs.Prelude.{◌≡◌, ℕ, Bool, true, false, List, get_or, Some}
+use Rattle.std.specs.Prelude.{◌≡◌, ℕ, true, false, List, get_or, Some}
 use Rattle.b1_model.specs.declared.events.Doing.{Doing}
 use Rattle.b1_model.specs.MachineParts.{PeerPart, DriverPart, NodePart, State, is_live, no_node}
 use Rattle.b1_model.specs.MachineDriver.{is_flushing}

@@ -1,1 +1,2 @@
 pub mod Doomed
+pub mod Gap

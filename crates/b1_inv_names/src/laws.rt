@@ -6,6 +6,7 @@ ghost use Rattle.b1_model.specs.MachineParts.{State};
 ghost use Rattle.b1_model.specs.MachineStep.{Step, opening_state};
 ghost use Rattle.b1_inv.specs.Sound.{IsSound};
 ghost use Rattle.b1_inv_names.specs.Doomed.{FlushesDoomAll};
+ghost use Rattle.b1_inv_names.specs.Gap.{GapIsEmpty};
 ghost use Rattle.b1_inv_record.specs.Names.{BegunNames, EpochCounted, MadeNumbers, ShutIsEmpty};
 ghost use Rattle.b1_inv_record.specs.Right.{IsRight};
 
@@ -39,4 +40,10 @@ pub fn shut_peers_stay_empty()
 pub fn flushes_doom_all()
     ensures opening_FlushesDoomAll { (o : Opening) → IsOpening o → FlushesDoomAll (opening_state o) }
     ensures kept_FlushesDoomAll { (o : Opening) (s : State) (p : ℕ) (c : Option Command) (t : State) → IsSound o s → FlushesDoomAll s → Step o s p c t → FlushesDoomAll t }
+{}
+
+/// A step leaves the table of a peer in the gap of a reset empty, and so it is when a bus begins.
+pub fn tables_are_empty_in_gaps()
+    ensures opening_TableIsLines_gap { (o : Opening) → IsOpening o → GapIsEmpty o (opening_state o) }
+    ensures kept_TableIsLines_gap { (o : Opening) (s : State) (p : ℕ) (c : Option Command) (t : State) → IsSound o s → IsRight o s → Step o s p c t → GapIsEmpty o t }
 {}
