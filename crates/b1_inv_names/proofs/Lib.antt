@@ -10,3 +10,4 @@ pub mod Shut
 pub mod ShutKept
 pub mod Dooming
 pub mod Gaps
+pub mod Staying

@@ -5,6 +5,7 @@ ghost use Rattle.b1_model.specs.Opening.{IsOpening};
 ghost use Rattle.b1_model.specs.MachineParts.{State};
 ghost use Rattle.b1_model.specs.MachineStep.{Step, opening_state};
 ghost use Rattle.b1_inv.specs.Sound.{IsSound};
+ghost use Rattle.b1_inv_names.specs.Destroyed.{DestroyedStay};
 ghost use Rattle.b1_inv_names.specs.Doomed.{FlushesDoomAll};
 ghost use Rattle.b1_inv_names.specs.Gap.{GapIsEmpty};
 ghost use Rattle.b1_inv_record.specs.Names.{BegunNames, EpochCounted, MadeNumbers, ShutIsEmpty};
@@ -46,4 +47,9 @@ pub fn flushes_doom_all()
 pub fn tables_are_empty_in_gaps()
     ensures opening_TableIsLines_gap { (o : Opening) → IsOpening o → GapIsEmpty o (opening_state o) }
     ensures kept_TableIsLines_gap { (o : Opening) (s : State) (p : ℕ) (c : Option Command) (t : State) → IsSound o s → IsRight o s → Step o s p c t → GapIsEmpty o t }
+{}
+
+/// A step leaves every destroyed node destroyed.
+pub fn destroyed_nodes_stay()
+    ensures { (o : Opening) (s : State) (p : ℕ) (c : Option Command) (t : State) → Step o s p c t → DestroyedStay s t }
 {}

@@ -4,6 +4,6 @@
 mod laws;
 
 pub use laws::{
-    begun_names_stay_right, epochs_stay_counted, flushes_doom_all, made_numbers_stay_right,
-    shut_peers_stay_empty, tables_are_empty_in_gaps,
+    begun_names_stay_right, destroyed_nodes_stay, epochs_stay_counted, flushes_doom_all,
+    made_numbers_stay_right, shut_peers_stay_empty, tables_are_empty_in_gaps,
 };
