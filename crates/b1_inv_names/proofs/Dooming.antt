@@ -25,20 +25,19 @@ use Rattle.b1_model.specs.MachineParts.{PeerPart, NodePart, DriverPart, State, i
 use Rattle.b1_model.specs.MachineTables.{with_node, with_nodes, in_state}
 use Rattle.b1_model.specs.MachineSend.{final_stamp}
 use Rattle.b1_model.specs.MachineDestroy.{live_serials, reset_serials, doom_by}
-use Rattle.b1_model.specs.MachineDriver.{accepted_from, is_place, attaching, with_slot, all_staged, staging, all_refused, unstaging, syncing, syncing_notices, committing_notices, is_flushing, send_of, started, turn, Turn, Goes, Ends, first_action, next_action, peer_of}
+use Rattle.b1_model.specs.MachineDriver.{accepted_from, is_place, attaching, with_slot, all_staged, staging, all_refused, unstaging, syncing, committing_notices, is_flushing, send_of, started, turn, Turn, Goes, Ends, first_action, next_action, peer_of}
 use Rattle.b1_model.specs.MachineEvents.{happens, destroy_by, begin_refusal}
 use Rattle.b1_model.specs.MachineStep.{Step, opening_state}
 use Rattle.b1_step.specs.Rights.{node_facts, may_be_elsewhere}
 use Rattle.b1_step.specs.Rights.{Has}
 use Rattle.b1_step.proofs.Kept.{keeps}
 use Rattle.b1_inv.specs.Words.{IsPeer, IsDriver}
-use Rattle.b1_inv.specs.Notices.{is_unstamped}
 use Rattle.b1_inv.specs.Sound.{IsSound}
 use Rattle.b1_inv_tools.proofs.Leaves.{driver_cases, peer_cases}
 use Rattle.b1_inv_tools.proofs.Openings.{opening_idle}
 use Rattle.b1_inv_notices.proofs.Nodes.{doomed_state}
 use Rattle.b1_inv_notices.proofs.Turns.{doing_in, opened, answered, OnTurn, took_leaves, parts, going, going_doing, going_action, going_answer}
-use Rattle.b1_inv_names.specs.Doomed.{NoneLive, FlushesDoomAll}
+use Rattle.b1_inv_names.specs.Doomed.{NoneLive, FlushesDoomAll, is_ending}
 use Rattle.b1_inv_names.proofs.Begun.{away_kind}
 
 -- ---- nodes
@@ -90,16 +89,16 @@ all_doomed ns i = by (is_live (get_or ns i no_node).state) refl
 
 -- a turn leads to a phase without a stamp only from one
 abbrev From : Bool → Turn → Type 0
-From b (Goes phase) = is_unstamped phase ≡ true → b ≡ true
+From b (Goes phase) = is_ending phase ≡ true → b ≡ true
 From b (Ends got) = ⊤
 
-no_from : (b : Bool) (phase : Phase) → is_unstamped phase ≡ false → From b (Goes phase)
+no_from : (b : Bool) (phase : Phase) → is_ending phase ≡ false → From b (Goes phase)
 no_from b phase none is = let both : true ≡ false = sym is ∙ none in absurd (cc both)
 
-from_attaching : (sending : Sending) (place slot : ℕ) → is_unstamped (attaching sending place slot) ≡ false
+from_attaching : (sending : Sending) (place slot : ℕ) → is_ending (attaching sending place slot) ≡ false
 from_attaching sending place slot = by (nat_lt slot (length sending.begun.with)) (nat_lt 0 (length sending.begun.with) && is_place (accepted_from (place + 1) sending.places) sending.places) (accepted_from (place + 1) sending.places)
   where
-    by : (b c : Bool) (next : ℕ) → is_unstamped (cond b (Attaching sending place slot) (cond c (Attaching sending next 0) (Stamping sending))) ≡ false
+    by : (b c : Bool) (next : ℕ) → is_ending (cond b (Attaching sending place slot) (cond c (Attaching sending next 0) (Stamping sending))) ≡ false
     by true c next = refl
     by false true next = refl
     by false false next = refl
@@ -123,33 +122,26 @@ from_place : (begun : Begun) (places : List (Option Reason)) (collected : ℕ) (
 from_place begun places collected r true = from_staging begun (places ++ Some r ∷ []) collected
 from_place begun places collected r false = from_unstaging begun (places ++ Some r ∷ []) (record { reason = r; place = Some (length places) }) (accepted_from 0 (places ++ Some r ∷ []))
 
-from_syncing : (sending : Sending) (stamp place : ℕ) → is_unstamped (syncing sending stamp place) ≡ false
+from_syncing : (sending : Sending) (stamp place : ℕ) → is_ending (syncing sending stamp place) ≡ false
 from_syncing sending stamp place = by (is_place place sending.places)
   where
-    by : (b : Bool) → is_unstamped (cond b (Syncing sending stamp place) (Committing sending stamp (accepted_from 0 sending.places))) ≡ false
+    by : (b : Bool) → is_ending (cond b (Syncing sending stamp place) (Committing sending stamp (accepted_from 0 sending.places))) ≡ false
     by true = refl
     by false = refl
 
-from_notices : (d : Destruction) (stamp at : ℕ) → is_unstamped (syncing_notices d stamp at) ≡ false
-from_notices d stamp at = by (nat_lt at (length d.staged))
-  where
-    by : (b : Bool) → is_unstamped (cond b (SyncingNotices d stamp at) (CommittingOwn d stamp)) ≡ false
-    by true = refl
-    by false = refl
-
-from_commits : (command : Command) (d : Destruction) (stamp at : ℕ) → From false (committing_notices command d stamp at)
+from_commits : (command : Command) (d : Destruction) (stamp at : ℕ) → From true (committing_notices command d stamp at)
 from_commits command d stamp at = by (nat_lt at (length d.staged)) (is_flushing command)
   where
-    by : (b c : Bool) → From false (cond b (Goes (CommittingNotices d stamp at)) (cond c (Goes (Flushing (Some stamp))) (Ends (answer.Destroyed stamp))))
-    by true c = λ is. is
-    by false true = λ is. is
+    by : (b c : Bool) → From true (cond b (Goes (CommittingNotices d stamp at)) (cond c (Goes (Flushing (Some stamp))) (Ends (answer.Destroyed stamp))))
+    by true c = λ is. refl
+    by false true = λ is. refl
     by false false = tt
 
 abbrev is_starting : Phase → Bool
 is_starting Starting = true
 is_starting phase = false
 
-from_turn : (me : ℕ) (command : Command) (phase : Phase) (outcome : Outcome) → is_starting phase ≡ false → From (is_unstamped phase) (turn me command phase outcome)
+from_turn : (me : ℕ) (command : Command) (phase : Phase) (outcome : Outcome) → is_starting phase ≡ false → From (is_ending phase) (turn me command phase outcome)
 from_turn me command Starting outcome on = absurd (cc on)
 from_turn me command (Staging begun places collected) (out.Stage (Ok clock)) on = from_staging begun (places ++ None ∷ []) (max collected clock)
 from_turn me command (Staging begun places collected) (out.Stage (Err r)) on = from_place begun places collected r (send_of command).go_on
@@ -161,17 +153,17 @@ from_turn me command (Committing sending stamp place) (out.Commit found) on = λ
 from_turn me command (Visiting d left) (out.Visit got) on = λ is. refl
 from_turn me command (Dooming d) (out.StampDestroy (Ok stamp)) on = λ is. refl
 from_turn me command (Dooming d) (out.StampDestroy (Err late)) on = λ is. refl
-from_turn me command (SyncingNotices d stamp at) out.Sync on = no_from false (syncing_notices d stamp (at + 1)) (from_notices d stamp (at + 1))
+from_turn me command (SyncingNotices d stamp at) out.Sync on = λ is. refl
 from_turn me command (CommittingOwn d stamp) out.CommitNotices on = from_commits command d stamp 0
 from_turn me command (CommittingNotices d stamp at) out.CommitNotices on = from_commits command d stamp (at + 1)
-from_turn me command (Flushing stamp) (out.Flush dead) on = λ is. is
+from_turn me command (Flushing stamp) (out.Flush dead) on = λ is. refl
 from_turn me command phase outcome on = λ is. is
 
 -- ---- events
 
 abbrev Doomed : PeerPart → Option Doing → Type 0
 Doomed y None = ⊤
-Doomed y (Some doing) = is_flushing doing.command ≡ true → is_unstamped doing.phase ≡ true → NoneLive y.nodes
+Doomed y (Some doing) = is_flushing doing.command ≡ true → is_ending doing.phase ≡ true → NoneLive y.nodes
 
 on_turn : (command : Command) (y : PeerPart) (b : Bool) (to : Turn) → From b to → (is_flushing command ≡ true → b ≡ true → NoneLive y.nodes) → OnTurn command (Doomed y) to
 on_turn command y b (Goes phase) from none = λ flushing is. none flushing (from is)
@@ -202,26 +194,30 @@ module _ (o : Opening) (memory : Bool) (d : DriverPart) (x : PeerPart) where
   elsewhere_none e doing action is none = none_by_facts x.nodes (happens o memory e doing action x).1.nodes (keeps o memory e doing action x is).nodes none
 
   module _ (command : Command) where
-    own_none : (phase : Phase) (owed : List OwedDrop) → is_unstamped phase ≡ true → NoneLive x.nodes → NoneLive (answered o memory d command phase owed x).1.nodes
+    own_none : (phase : Phase) (owed : List OwedDrop) → is_ending phase ≡ true → NoneLive x.nodes → NoneLive (answered o memory d command phase owed x).1.nodes
     own_none phase (one ∷ rest) is none = elsewhere_none (opened d command phase (one ∷ rest)) (doing_in command phase) (act.DropRefs one.node.owner one.node.serial one.holder one.amount one.clock) refl none
     own_none (Visiting destruction left) [] is none = elsewhere_none (opened d command (Visiting destruction left) []) (doing_in command (Visiting destruction left)) (next_action (opened d command (Visiting destruction left) [])) refl none
     own_none (Dooming destruction) [] is none = doomed_none x.late x destruction.collected destruction.doomed none
+    own_none (SyncingNotices destruction stamp at) [] is none = none
+    own_none (CommittingOwn destruction stamp) [] is none = none
+    own_none (CommittingNotices destruction stamp at) [] is none = none
+    own_none (Flushing stamp) [] is none = none
     own_none phase [] is none = absurd (cc is)
 
-    own_event : (phase : Phase) (owed : List OwedDrop) → (is_flushing command ≡ true → is_unstamped phase ≡ true → NoneLive x.nodes) → OnTurn command (Doomed (answered o memory d command phase owed x).1) (turn d.me command phase (answered o memory d command phase owed x).0)
+    own_event : (phase : Phase) (owed : List OwedDrop) → (is_flushing command ≡ true → is_ending phase ≡ true → NoneLive x.nodes) → OnTurn command (Doomed (answered o memory d command phase owed x).1) (turn d.me command phase (answered o memory d command phase owed x).0)
     own_event Starting (one ∷ rest) before = λ flushing un. absurd (cc un)
     own_event Starting [] before = first_doomed command d.shut
-    own_event phase owed before = on_turn command (answered o memory d command phase owed x).1 (is_unstamped phase) (turn d.me command phase (answered o memory d command phase owed x).0) (from_turn d.me command phase (answered o memory d command phase owed x).0 refl) (λ flushing un. own_none phase owed un (before flushing un))
+    own_event phase owed before = on_turn command (answered o memory d command phase owed x).1 (is_ending phase) (turn d.me command phase (answered o memory d command phase owed x).0) (from_turn d.me command phase (answered o memory d command phase owed x).0 refl) (λ flushing un. own_none phase owed un (before flushing un))
 
     starting_here : (c : Command) (shut : Bool) → peer_of d.me (cond shut act.Local (first_action c)) ≡ d.me
     starting_here c true = refl
     starting_here cmd.Disconnect false = refl
     starting_here c false = refl
 
-    away_event : (y : PeerPart) (phase : Phase) (owed : List OwedDrop) → peer_of d.me (next_action (opened d command phase owed)) ≢ d.me → (is_flushing command ≡ true → is_unstamped phase ≡ true → NoneLive y.nodes) → OnTurn command (Doomed y) (turn d.me command phase (answered o memory d command phase owed x).0)
+    away_event : (y : PeerPart) (phase : Phase) (owed : List OwedDrop) → peer_of d.me (next_action (opened d command phase owed)) ≢ d.me → (is_flushing command ≡ true → is_ending phase ≡ true → NoneLive y.nodes) → OnTurn command (Doomed y) (turn d.me command phase (answered o memory d command phase owed x).0)
     away_event y Starting (one ∷ rest) apart before = λ flushing un. absurd (cc un)
     away_event y Starting [] apart before = absurd (apart (starting_here command d.shut))
-    away_event y phase owed apart before = on_turn command y (is_unstamped phase) (turn d.me command phase (answered o memory d command phase owed x).0) (from_turn d.me command phase (answered o memory d command phase owed x).0 refl) before
+    away_event y phase owed apart before = on_turn command y (is_ending phase) (turn d.me command phase (answered o memory d command phase owed x).0) (from_turn d.me command phase (answered o memory d command phase owed x).0 refl) before
 
 -- ---- a step
 
@@ -229,10 +225,10 @@ module _ {o : Opening} {s : State} {p : ℕ} {c : Option Command} {t : State} (s
   me_is : step.driver.me ≡ p
   me_is = sound.numbered.drivers p step.driver step.is_driver
 
-  going_before : (x : PeerPart) → IsPeer s p x → is_flushing (parts step).command ≡ true → is_unstamped (parts step).phase ≡ true → NoneLive x.nodes
+  going_before : (x : PeerPart) → IsPeer s p x → is_flushing (parts step).command ≡ true → is_ending (parts step).phase ≡ true → NoneLive x.nodes
   going_before x is flushing un = elim (parts step).was [
     | inl open_is ↦ before.none p step.driver x (going_doing step) step.is_driver is open_is flushing un
-    | inr new ↦ let both : true ≡ false = sym un ∙ ap is_unstamped new.1 in absurd (cc both)
+    | inr new ↦ let both : true ≡ false = sym un ∙ ap is_ending new.1 in absurd (cc both)
   ]
 
   took_doomed : (y : PeerPart) → OnTurn (parts step).command (Doomed y) (turn step.driver.me (parts step).command (parts step).phase (going_answer step)) → Doomed y step.new_driver.doing
@@ -249,7 +245,7 @@ module _ {o : Opening} {s : State} {p : ℕ} {c : Option Command} {t : State} (s
         (away_event o step.local.memory step.driver step.peer (parts step).command y (parts step).phase step.driver.owed (λ same. away.0 (sym me_is ∙ sym same ∙ (parts step).is_at)) (going_before y away.1))
   ]
 
-  other_after : (r : ℕ) (d : DriverPart) (y : PeerPart) (doing : Doing) → r ≢ p → IsDriver s r d → IsPeer t r y → d.doing ≡ Some doing → is_flushing doing.command ≡ true → is_unstamped doing.phase ≡ true → NoneLive y.nodes
+  other_after : (r : ℕ) (d : DriverPart) (y : PeerPart) (doing : Doing) → r ≢ p → IsDriver s r d → IsPeer t r y → d.doing ≡ Some doing → is_flushing doing.command ≡ true → is_ending doing.phase ≡ true → NoneLive y.nodes
   other_after r d y doing apart is_driver is open_is flushing un = elim (peer_cases step r y is) [
     | inl at_it ↦
         subst (λ z. NoneLive z.nodes) ((parts step).is_peer ∙ sym at_it.1)

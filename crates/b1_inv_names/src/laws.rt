@@ -36,7 +36,7 @@ pub fn shut_peers_stay_empty()
     ensures kept_ShutIsEmpty { (o : Opening) (s : State) (p : ℕ) (c : Option Command) (t : State) → IsSound o s → IsRight o s → Step o s p c t → ShutIsEmpty t }
 {}
 
-/// A step keeps the nodes of a peer whose open reset or disconnect has no stamp yet dying or destroyed, and every bus
+/// A step leaves no node live at a peer with an open reset or disconnect, from its begin to its flush, and every bus
 /// begins so.
 pub fn flushes_doom_all()
     ensures opening_FlushesDoomAll { (o : Opening) → IsOpening o → FlushesDoomAll (opening_state o) }
