@@ -1,0 +1,13 @@
+pub mod Effects
+pub mod Recorded
+pub mod Measures
+pub mod Epochs
+pub mod Numbers
+pub mod Made
+pub mod MadeFirst
+pub mod Begun
+pub mod Shut
+pub mod ShutKept
+pub mod Dooming
+pub mod Gaps
+pub mod Staying

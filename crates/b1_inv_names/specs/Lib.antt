@@ -1,0 +1,3 @@
+pub mod Doomed
+pub mod Gap
+pub mod Destroyed
