@@ -1,3 +1,6 @@
 pub mod Ended
 pub mod VoidTurns
 pub mod Void
+pub mod Records
+pub mod Visits
+pub mod Held
