@@ -1,6 +1,6 @@
 -- Whoever holds a node that isn't live is covered.
 use Rattle.std.proofs.Common.{◌≡◌, ◌≢◌, ◌⊎◌, refl, sym, ap, subst, ◌∙◌, inl, inr, ℕ, ◌+◌, ◌<◌, ◌≤◌, Bool, true, false, cond, List, [], ◌∷◌, get_or, length, Option, Some, None, Ok, Err}
-use Rattle.std.specs.Prelude.{slice_get}
+use Rattle.std.specs.Prelude.{slice_get, sum_by}
 use Rattle.std.proofs.lemmas.Option.{same_Some, slice_get_within}
 use native.Mathlib.Omega.{arith}
 use Rattle.b1_model.specs.declared.commands.Command.{Command}
@@ -24,13 +24,13 @@ use Rattle.b1_model.specs.declared.events.Outcome.{Outcome}
 use Rattle.b1_model.specs.declared.events.Outcome.TheVariants as out
 use Rattle.b1_model.specs.declared.events.Phase.{Phase}
 use Rattle.b1_model.specs.declared.events.Phase.TheVariants.{Starting, Visiting, Dooming}
-use Rattle.b1_model.specs.MachineParts.{PeerPart, DriverPart, HandleRecord, State, is_live, is_dying, is_staged, node_at, no_record, record_of, record_or_none, carried, slots_of}
+use Rattle.b1_model.specs.MachineParts.{PeerPart, DriverPart, HandleRecord, State, is_live, is_dying, is_staged, node_at, no_node, no_record, record_of, record_or_none, carried, slots_of}
 use Rattle.b1_model.specs.MachineTables.{count_of, with_peer}
 use Rattle.b1_model.specs.MachineSend.{attach_answer, attached_by, final_stamp}
 use Rattle.b1_model.specs.MachineDestroy.{doom_by, doomed_part, visit_set, visited_from}
 use Rattle.b1_model.specs.MachineDriver.{first_action, next_action, peer_of, destroying}
 use Rattle.b1_model.specs.MachineTook.{took}
-use Rattle.b1_model.specs.MachineCounts.{fresh, peer_amount}
+use Rattle.b1_model.specs.MachineCounts.{peer_amount, queue_amount, dead_amount, driver_amount}
 use Rattle.b1_model.specs.MachineEvents.{happens, destroy_by, begin_refusal, begin_serials, doomed_of}
 use Rattle.b1_model.specs.MachineStep.{Step, opening_state}
 use Rattle.b1_step.specs.Rights.{Has}
@@ -148,6 +148,15 @@ module _ (o : Opening) (memory : Bool) (d : DriverPart) (command : Command) (x :
 
 -- ---- a step
 
+abbrev counts_by : NodeRef → ℕ → Option PeerPart → ℕ
+counts_by node q found = elim found [ None ↦ 0 | Some x ↦ count_of (node_at x node.serial) q ]
+
+abbrev amount_by : NodeRef → Option PeerPart → ℕ
+amount_by node found = elim found [ None ↦ 0 | Some x ↦ peer_amount node x ]
+
+abbrev found_or_none : NodeRef → Option HandleRecord → HandleRecord
+found_or_none node found = elim found [ None ↦ no_record node | Some h ↦ h ]
+
 slots_committed : (b : Bool) (open_slots slots : List Slot) → b ≡ false → cond b open_slots slots ≡ slots
 slots_committed true open_slots slots is = absurd (cc is)
 slots_committed false open_slots slots is = refl
@@ -227,3 +236,139 @@ module _ {o : Opening} {s : State} {p : ℕ} {c : Option Command} {t : State} (s
 
       before : IsCovered q g y e
       before = by_node h.node follows.node is_owner is_driver dead (follows.held some)
+
+  -- ---- after
+
+  state_same : (node : NodeRef) (y : PeerPart) → IsMade s node → IsPeer s node.owner step.peer → y ≡ step.new_peer → dooms (going_action step) ≡ false → (node_at y node.serial).state ≡ (node_at step.peer node.serial).state
+  state_same node y (z, there, within) was is calm =
+      let same = ap (λ w. length w.nodes) (same_peer_at s node.owner z step.peer there was) in
+      ap (λ w. (node_at w node.serial).state) (is ∙ sym (parts step).is_peer)
+      ∙ (nodes_kept o step.local.memory (going step) (going_doing step) (going_action step) step.peer calm).state node.serial (omega (arith, within, same))
+
+  doomer : dooms (going_action step) ≡ true → step.at ≡ p
+  doomer is = sym (parts step).is_at ∙ dooms_own step.driver.me (going_action step) is ∙ is_me
+
+  late_after : (q : ℕ) (y : PeerPart) → y ≡ step.new_peer → dooms (going_action step) ≡ false → Has step.peer.late q → Has y.late q
+  late_after q y is calm h = subst (λ z. Has z.late q) ((parts step).is_peer ∙ sym is) (late_grows o step.local.memory (going step) (going_doing step) (going_action step) step.peer q calm h)
+
+  -- where the event is at the holder
+  at_holder : (q : ℕ) (h : HandleRecord) (y : PeerPart) (e : DriverPart) → q ≡ step.at → Has step.new_peer.handles h → 1 ≤ h.held → IsPeer t h.node.owner y → IsDriver t h.node.owner e → is_live (node_at y h.node.serial).state ≡ false → IsCovered q h y e
+  at_holder q h y e here there some is_owner is_driver dead =
+      elim (peer_cases step h.node.owner y is_owner) [
+        | inl at_owner ↦ absurd (foreign (at_owner.0 ∙ sym here))
+        | inr other ↦ elim (driver_cases step h.node.owner e is_driver) [
+          | inr same ↦ covered_before q step.peer h y e is_peer from some other.1 same.1 dead
+          | inl own ↦ by_own own.0 own.1 other.1 (covered_before q step.peer h y step.driver is_peer from some other.1 (subst (λ r. IsDriver s r step.driver) (sym own.0) step.is_driver) dead)
+        ]
+      ]
+    where
+      is_peer : IsPeer s q step.peer
+      is_peer = subst (λ r. IsPeer s r step.peer) (sym here) step.is_peer
+
+      from : From (TakenIn step.peer) step.peer.handles h
+      from = from_old h there some
+
+      foreign : h.node.owner ≢ q
+      foreign same = sound.flights.foreign q step.peer from.0 is_peer from.1 (ap (λ n. n.owner) from.2.node ∙ same)
+
+      by_own : h.node.owner ≡ p → e ≡ step.new_driver → IsPeer s h.node.owner y → IsCovered q h y step.driver → IsCovered q h y e
+      by_own owner is was (inl flagged) = inl flagged
+      by_own owner is was (inr (dies, inl left)) = inl (visited_flags q h y left there owner (subst (λ r. IsPeer s r y) owner was) dies)
+      by_own owner is was (inr (dies, inr late)) = inr (dies, inr late)
+
+  -- where it is at neither
+  at_neither : (q : ℕ) (x : PeerPart) (h : HandleRecord) (y : PeerPart) (e : DriverPart) → q ≢ step.at → IsPeer s q x → Has x.handles h → 1 ≤ h.held → IsPeer s h.node.owner y → IsDriver t h.node.owner e → is_live (node_at y h.node.serial).state ≡ false → IsCovered q h y e
+  at_neither q x h y e apart is_peer there some is_owner is_driver dead =
+      elim (driver_cases step h.node.owner e is_driver) [
+        | inr same ↦ covered.held q x h y e is_peer there some is_owner same.1 dead
+        | inl own ↦ by_own own.1 (covered.held q x h y step.driver is_peer there some is_owner (subst (λ r. IsDriver s r step.driver) (sym own.0) step.is_driver) dead)
+      ]
+    where
+      by_own : e ≡ step.new_driver → IsCovered q h y step.driver → IsCovered q h y e
+      by_own is (inl flagged) = inl flagged
+      by_own is (inr (dies, inl left)) = inr (dies, inl (subst (λ d. Has (to_visit d) q) (sym is) (left_after q left apart)))
+      by_own is (inr (dies, inr late)) = inr (dies, inr late)
+
+  -- where it is at the owner
+  module _ (q : ℕ) (x : PeerPart) (h : HandleRecord) (y : PeerPart) (e : DriverPart) (apart : q ≢ step.at) (is_peer : IsPeer s q x) (there : Has x.handles h) (some : 1 ≤ h.held)
+      (here : h.node.owner ≡ step.at) (is_new : y ≡ step.new_peer) (is_driver : IsDriver t h.node.owner e) where
+    owner_was : IsPeer s h.node.owner step.peer
+    owner_was = subst (λ r. IsPeer s r step.peer) (sym here) step.is_peer
+
+    made : IsMade s h.node
+    made = sound.flights.made q x h is_peer there
+
+    -- the owner's driver, if it steps
+    own_driver : h.node.owner ≡ p → e ≡ step.new_driver
+    own_driver owner = elim (driver_cases step h.node.owner e is_driver) [ inl own ↦ own.1 | inr other ↦ absurd (other.0 owner) ]
+
+    stays_due : dooms (going_action step) ≡ false → (d : DriverPart) → (Has (to_visit d) q → Has (to_visit e) q) → IsCovered q h step.peer d → IsCovered q h y e
+    stays_due calm d left (inl flagged) = inl flagged
+    stays_due calm d left (inr (dies, inl visit)) = inr (ap is_dying (state_same h.node y made owner_was is_new calm) ∙ dies, inl (left visit))
+    stays_due calm d left (inr (dies, inr late)) = inr (ap is_dying (state_same h.node y made owner_was is_new calm) ∙ dies, inr (late_after q y is_new calm late))
+
+    dooms_due : dooms (going_action step) ≡ true → IsCovered q h step.peer step.driver → IsCovered q h y e
+    dooms_due doom (inl flagged) = inl flagged
+    dooms_due doom (inr (dies, inl visit)) = let both : true ≡ false = sym doom ∙ ap dooms (visits q visit) in absurd (cc both)
+    dooms_due doom (inr (dies, inr late)) =
+        let k = doom_late o step.local.memory step.driver (parts step).command step.peer q h.node.serial (parts step).phase step.driver.owed doom (doomed_here step.peer h.node.serial (subst (λ r. IsPeer s r step.peer) (doomer doom) step.is_peer) dies) late in
+        let nodes : y.nodes ≡ step.peer.nodes = ap (λ z. z.nodes) (is_new ∙ sym (parts step).is_peer) ∙ k.0 in
+        let open_is : LeftIn q step.new_driver.doing = subst (λ d. LeftIn q d.doing) (parts step).is_driver k.1 in
+        inr (ap (λ ns. is_dying (get_or ns h.node.serial no_node).state) nodes ∙ dies, inl (subst (λ d. Has (to_visit d) q) (sym (own_driver (here ∙ doomer doom))) (left_to_visit q step.new_driver.doing open_is)))
+
+    was_dead : is_live (node_at step.peer h.node.serial).state ≡ false → IsCovered q h y e
+    was_dead dead = by (dooms (going_action step)) refl (driver_cases step h.node.owner e is_driver)
+      where
+        own : h.node.owner ≡ p → IsCovered q h step.peer step.driver
+        own owner = covered.held q x h step.peer step.driver is_peer there some owner_was (subst (λ r. IsDriver s r step.driver) (sym owner) step.is_driver) dead
+
+        by : (b : Bool) → dooms (going_action step) ≡ b → ((h.node.owner ≡ p) × (e ≡ step.new_driver)) ⊎ ((h.node.owner ≢ p) × IsDriver s h.node.owner e) → IsCovered q h y e
+        by true doom whose = dooms_due doom (own (here ∙ doomer doom))
+        by false calm (inl (owner, is)) = stays_due calm step.driver (λ visit. subst (λ d. Has (to_visit d) q) (sym is) (left_after q visit apart)) (own owner)
+        by false calm (inr (other, same)) = stays_due calm e (λ visit. visit) (covered.held q x h step.peer e is_peer there some owner_was same dead)
+
+    -- the owner counts what is held
+    counted_there : 1 ≤ count_of (node_at step.peer h.node.serial) q
+    counted_there =
+        let count : count_in s h.node q ≡ count_of (node_at step.peer h.node.serial) q = ap (counts_by h.node q) owner_was in
+        let counts : count_of (node_at step.peer h.node.serial) q ≡ amount_by h.node (slice_get s.peers q) + sum_by (driver_amount h.node q) s.drivers = sym count ∙ sound.references.counts h.node q in
+        let mine : amount_by h.node (slice_get s.peers q) ≡ (record_or_none h.node x.handles).held + queue_amount h.node x.queue + dead_amount h.node x.dead = ap (amount_by h.node) is_peer in
+        let held : (record_or_none h.node x.handles).held ≡ h.held = ap (λ z. (found_or_none h.node z).held) (record_found x.handles h (sound.rising q x is_peer) there) in
+        omega (arith, counts, mine, held, some)
+
+    was_live : is_live (node_at step.peer h.node.serial).state ≡ true → is_live (node_at y h.node.serial).state ≡ false → IsCovered q h y e
+    was_live alive dead = by (dooms (going_action step)) refl
+      where
+        by : (b : Bool) → dooms (going_action step) ≡ b → IsCovered q h y e
+        by false calm = let both : true ≡ false = sym alive ∙ ap is_live (sym (state_same h.node y made owner_was is_new calm)) ∙ dead in absurd (cc both)
+        by true doom =
+            let few = slice_get_within s.peers q x is_peer in
+            let same = ap (λ w. length w.nodes) (same_peer_at s h.node.owner made.0 step.peer made.1 owner_was) in
+            let within = made.2 in
+            let k = doom_begins o step.local.memory step.driver (parts step).command step.peer q h.node.serial alive (omega (arith, within, same)) (omega (arith, few, sound.numbered.as_many_peers, (sound.numbered.peers step.at step.peer step.is_peer).peers)) counted_there
+                (parts step).phase step.driver.owed doom shape (ap (λ z. is_live (node_at z h.node.serial).state) ((parts step).is_peer ∙ sym is_new) ∙ dead) in
+            inr (ap (λ z. is_dying (node_at z h.node.serial).state) (is_new ∙ sym (parts step).is_peer) ∙ k.0,
+              inl (subst (λ d. Has (to_visit d) q) (sym (own_driver (here ∙ doomer doom))) (left_to_visit q step.new_driver.doing (subst (λ d. LeftIn q d.doing) (parts step).is_driver k.1))))
+          where
+            shape : DestructionShape step.peer.peers step.peer (parts step).command (parts step).phase
+            shape = elim (parts step).was [
+              | inl open_is ↦ sound.notices.shape p step.driver step.peer (going_doing step) step.is_driver (subst (λ r. IsPeer s r step.peer) (doomer doom) step.is_peer) open_is
+              | inr new ↦ subst (DestructionShape step.peer.peers step.peer (parts step).command) (sym new.1) tt
+            ]
+
+    at_owner : is_live (node_at y h.node.serial).state ≡ false → IsCovered q h y e
+    at_owner dead = by (is_live (node_at step.peer h.node.serial).state) refl
+      where
+        by : (b : Bool) → is_live (node_at step.peer h.node.serial).state ≡ b → IsCovered q h y e
+        by true alive = was_live alive dead
+        by false was = was_dead was
+
+  pub held_kept : (q : ℕ) (x : PeerPart) (h : HandleRecord) (y : PeerPart) (e : DriverPart) → IsPeer t q x → Has x.handles h → 1 ≤ h.held → IsPeer t h.node.owner y → IsDriver t h.node.owner e → is_live (node_at y h.node.serial).state ≡ false → IsCovered q h y e
+  held_kept q x h y e is_peer there some is_owner is_driver dead =
+      elim (peer_cases step q x is_peer) [
+        | inl here ↦ at_holder q h y e here.0 (subst (λ z. Has z.handles h) here.1 there) some is_owner is_driver dead
+        | inr other ↦ elim (peer_cases step h.node.owner y is_owner) [
+          | inl at ↦ at_owner q x h y e other.0 other.1 there some at.0 at.1 is_driver dead
+          | inr elsewhere ↦ at_neither q x h y e other.0 other.1 there some elsewhere.1 is_driver dead
+        ]
+      ]
