@@ -4,3 +4,4 @@ pub mod Void
 pub mod Records
 pub mod Visits
 pub mod Held
+pub mod CoverBegins
