@@ -1,5 +1,5 @@
 pub mod Ended
-pub mod VoidTurns
+pub mod SlotTurns
 pub mod Void
 pub mod Records
 pub mod Visits

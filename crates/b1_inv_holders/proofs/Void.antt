@@ -1,5 +1,5 @@
 -- A void slot is of a destroyed node, whose stamp is collected, and a committed message has a later one.
-use Rattle.std.proofs.Common.{◌≡◌, refl, sym, ap, subst, ◌∙◌, inl, inr, ℕ, ◌<◌, ◌≤◌, nat_le, Bool, true, false, cond, List, [], ◌∷◌, get_or, Option, Some, None}
+use Rattle.std.proofs.Common.{◌≡◌, ◌≢◌, refl, sym, ap, subst, ◌∙◌, inl, inr, ℕ, ◌<◌, ◌≤◌, nat_le, Bool, true, false, cond, List, [], ◌∷◌, get_or, Option, Some, None}
 use Rattle.std.specs.Prelude.{slice_get}
 use Rattle.std.specs.List.{All}
 use Rattle.std.proofs.lemmas.Bool.{and_parts}
@@ -18,6 +18,7 @@ use Rattle.b1_model.specs.declared.parts.Attach.TheVariants as attach
 use Rattle.b1_model.specs.declared.parts.NodeState.{NodeState}
 use Rattle.b1_model.specs.declared.parts.NodeState.TheVariants.{Live, Dying, Destroyed}
 use Rattle.b1_model.specs.declared.parts.Slot.{Slot}
+use Rattle.b1_model.specs.declared.parts.Slot.TheVariants as slot
 use Rattle.b1_model.specs.declared.events.Action.TheVariants as act
 use Rattle.b1_model.specs.declared.events.Doing.{Doing}
 use Rattle.b1_model.specs.declared.events.OwedDrop.{OwedDrop}
@@ -49,7 +50,14 @@ use Rattle.b1_inv_notices.proofs.Turns.{doing_in, opened, answered, took_leaves,
 use Rattle.b1_inv_cover.proofs.Came.{stage_staged}
 use Rattle.b1_inv_cover.proofs.Stamped.{peer_before, was_open}
 use Rattle.b1_inv_holders.proofs.Ended.{made_ended}
-use Rattle.b1_inv_holders.proofs.VoidTurns.{IsVoid, unattached_void, NewVoid, VoidIn, in_none, void_turn}
+use Rattle.b1_inv_holders.proofs.SlotTurns.{IsSlot, unattached, NewSlot, SlotIn, in_none, slot_turn}
+
+-- a slot is void
+abbrev IsVoid : List Slot → ℕ → Type 0
+IsVoid slots j = IsSlot slot.Void slots j
+
+apart : slot.Unattached ≢ slot.Void
+apart is = absurd (cc is)
 
 -- one of the nodes was made
 made_one : (s : State) (nodes : List NodeRef) (j : ℕ) (node : NodeRef) → All (IsMade s) nodes → slice_get nodes j ≡ Some node → IsMade s node
@@ -77,19 +85,19 @@ void_by (Destroyed given) own stamp is = let same : given ≡ stamp = cc is in a
 
 module _ (o : Opening) (memory : Bool) (d : DriverPart) (command : Command) (x : PeerPart) where
   -- a node whose slot an attach makes void is destroyed at its owner, and its stamp is collected
-  attach_void : (phase : Phase) (owed : List OwedDrop) (j collected : ℕ) (node : NodeRef) → NewVoid phase (answered o memory d command phase owed x).0 j collected → slice_get (begun_of phase).with j ≡ Some node
+  attach_void : (phase : Phase) (owed : List OwedDrop) (at j collected : ℕ) (node : NodeRef) → NewSlot slot.Void apart phase (answered o memory d command phase owed x).0 at j collected → slice_get (begun_of phase).with j ≡ Some node
       → (stamp : ℕ) × ((node_at x node.serial).state ≡ Destroyed stamp) × (stamp ≤ collected) × (peer_of d.me (next_action (opened d command phase owed)) ≡ node.owner)
-  attach_void (Attaching sending place handle) [] j collected node new is = by (attach_answer x (node_of_place sending.begun.with handle).serial (node_of_place sending.begun.to place).owner) refl new
+  attach_void (Attaching sending place handle) [] at j collected node new is = by (attach_answer x (node_of_place sending.begun.with handle).serial (node_of_place sending.begun.to place).owner) refl new
     where
-      by : (got : Attach) → attach_answer x (node_of_place sending.begun.with handle).serial (node_of_place sending.begun.to place).owner ≡ got → NewVoid (Attaching sending place handle) (out.Attach got) j collected
+      by : (got : Attach) → attach_answer x (node_of_place sending.begun.with handle).serial (node_of_place sending.begun.to place).owner ≡ got → NewSlot slot.Void apart (Attaching sending place handle) (out.Attach got) at j collected
           → (stamp : ℕ) × ((node_at x node.serial).state ≡ Destroyed stamp) × (stamp ≤ collected) × ((node_of_place sending.begun.with handle).owner ≡ node.owner)
-      by attach.Counted was none = absurd none
-      by attach.Own was none = absurd none
-      by (attach.Void stamp) was (here, low) =
+      by attach.Counted was none = absurd (cc none.2)
+      by attach.Own was none = absurd (cc none.2)
+      by (attach.Void stamp) was (there, here, filled, low) =
           let same : node_of_place sending.begun.with handle ≡ node = ap (node_of_place sending.begun.with) (sym here) ∙ get_or_from_slice_get sending.begun.with j node no_ref is in
-          (stamp, ap (λ n. (node_at x n.serial).state) (sym same) ∙ void_by (node_at x (node_of_place sending.begun.with handle).serial).state _ stamp was, low, ap (λ n. n.owner) same)
-  attach_void (Attaching sending place handle) (one ∷ rest) j collected node new is = absurd new
-  attach_void phase owed j collected node new is = absurd new
+          (stamp, ap (λ n. (node_at x n.serial).state) (sym same) ∙ void_by (node_at x (node_of_place sending.begun.with handle).serial).state _ stamp was, omega (arith, low), ap (λ n. n.owner) same)
+  attach_void (Attaching sending place handle) (one ∷ rest) at j collected node new is = absurd new
+  attach_void phase owed at j collected node new is = absurd new
 
 -- ---- entries
 
@@ -122,11 +130,11 @@ module _ {o : Opening} {s : State} {p : ℕ} {c : Option Command} {t : State} (s
   owner_before node y is = let k = peer_before step node.owner y is in (k.0, k.1)
 
   -- what is void at the stepping driver
-  turned_void : (at j : ℕ) → VoidIn (parts step).command (parts step).phase (going_answer step) at j step.new_driver.doing
+  turned_void : (at j : ℕ) → SlotIn slot.Void apart (parts step).command (parts step).phase (going_answer step) at j step.new_driver.doing
   turned_void at j =
-      subst (λ e. VoidIn (parts step).command (parts step).phase (going_answer step) at j e.doing) (parts step).is_driver
-      (took_leaves (VoidIn (parts step).command (parts step).phase (going_answer step) at j) (parts step).command (λ phase may h. in_none (parts step).command (parts step).phase (going_answer step) at j) step.driver (parts step).phase step.driver.owed (going_answer step)
-      (void_turn (parts step).command at j step.driver.me (parts step).phase (going_answer step)))
+      subst (λ e. SlotIn slot.Void apart (parts step).command (parts step).phase (going_answer step) at j e.doing) (parts step).is_driver
+      (took_leaves (SlotIn slot.Void apart (parts step).command (parts step).phase (going_answer step) at j) (parts step).command (λ phase may h. in_none slot.Void apart (parts step).command (parts step).phase (going_answer step) at j) step.driver (parts step).phase step.driver.owed (going_answer step)
+      (slot_turn slot.Void apart (parts step).command at j step.driver.me (parts step).phase (going_answer step)))
 
   -- a command that carries a node was open
   open_of : (j : ℕ) (node : NodeRef) → slice_get (begun_of (parts step).phase).with j ≡ Some node → step.driver.doing ≡ Some (going_doing step)
@@ -153,7 +161,7 @@ module _ {o : Opening} {s : State} {p : ℕ} {c : Option Command} {t : State} (s
             let before = void.kept p at j step.driver (going_doing step) to node x.0 step.is_driver open_is to_before node_before old x.1 in
             (before.0, made_ended sound step node x.0 y before.0 made x.1 is_peer before.1, let low = before.2 in let more = k.1 in omega (arith, low, more))
         | inr new ↦
-            let now = attach_void o step.local.memory step.driver (parts step).command step.peer (parts step).phase step.driver.owed j (collected_of doing.phase) node new node_before in
+            let now = attach_void o step.local.memory step.driver (parts step).command step.peer (parts step).phase step.driver.owed at j (collected_of doing.phase) node new node_before in
             let here : step.at ≡ node.owner = sym (parts step).is_at ∙ now.3 in
             (now.0, made_ended sound step node step.peer y now.0 made (subst (λ q. IsPeer s q step.peer) here step.is_peer) is_peer now.1, now.2)
       ]
@@ -210,7 +218,7 @@ module _ {o : Opening} {s : State} {p : ℕ} {c : Option Command} {t : State} (s
       → slice_get (carried f.1) j ≡ Some node → IsVoid (slots_of f.1) j → IsPeer t node.owner y → Queued node y f
   queued_new phase (one ∷ rest) j f node y open_is (same, due) node_is is_void is = notice_void f j node y (ap (λ z. is_data z.1) same) is_void
   queued_new Starting [] j f node y open_is new node_is is_void is = first_new step.driver.shut (parts step).command j f node y new is_void
-  queued_new (Staging begun places collected) [] j f node y open_is new node_is is_void is = absurd (unattached_void begun.with j (ap (λ g. slice_get (slots_of g.1) j) (sym new) ∙ is_void))
+  queued_new (Staging begun places collected) [] j f node y open_is new node_is is_void is = absurd (unattached slot.Void apart begun.with j (ap (λ g. slice_get (slots_of g.1) j) (sym new) ∙ is_void))
   queued_new (Visiting destruction left) [] j f node y open_is (index, serial, doomed, same) node_is is_void is = notice_void f j node y (ap (λ z. is_data z.1) same) is_void
   queued_new (Committing sending stamp place) [] j f node y open_is (g, found, same) node_is is_void is =
       let there = find_has (is_stage step.driver.me place) step.peer.queue g found in
