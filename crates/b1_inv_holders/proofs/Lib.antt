@@ -5,3 +5,4 @@ pub mod Records
 pub mod Visits
 pub mod Held
 pub mod CoverBegins
+pub mod Counted
