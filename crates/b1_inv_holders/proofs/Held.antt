@@ -30,7 +30,7 @@ use Rattle.b1_model.specs.MachineSend.{attach_answer, attached_by, final_stamp}
 use Rattle.b1_model.specs.MachineDestroy.{doom_by, doomed_part, visit_set, visited_from}
 use Rattle.b1_model.specs.MachineDriver.{first_action, next_action, peer_of, destroying}
 use Rattle.b1_model.specs.MachineTook.{took}
-use Rattle.b1_model.specs.MachineCounts.{peer_amount, queue_amount, dead_amount, driver_amount}
+use Rattle.b1_model.specs.MachineCounts.{fresh, peer_amount, queue_amount, dead_amount, driver_amount}
 use Rattle.b1_model.specs.MachineEvents.{happens, destroy_by, begin_refusal, begin_serials, doomed_of}
 use Rattle.b1_model.specs.MachineStep.{Step, opening_state}
 use Rattle.b1_step.specs.Rights.{Has}
@@ -208,7 +208,7 @@ module _ {o : Opening} {s : State} {p : ℕ} {c : Option Command} {t : State} (s
       ]
 
   -- a visit gives a notice
-  visited_flags : (q : ℕ) (h : HandleRecord) (y : PeerPart) → Has (to_visit step.driver) q → Has step.new_peer.handles h → h.node.owner ≡ p → IsPeer s p y → is_dying (node_at y h.node.serial).state ≡ true → Flagged h
+  pub visited_flags : (q : ℕ) (h : HandleRecord) (y : PeerPart) → Has (to_visit step.driver) q → Has step.new_peer.handles h → h.node.owner ≡ p → IsPeer s p y → is_dying (node_at y h.node.serial).state ≡ true → Flagged h
   visited_flags q h y left there owner is dies =
       let among = dying_doomed (parts step).phase h.node.serial (doomed_here y h.node.serial is dies) in
       let after : (happens o step.local.memory (going step) (going_doing step) (act.Visit (get_or (left_of (parts step).phase) 0 step.driver.me)) step.peer).1 ≡ step.new_peer =
@@ -239,7 +239,7 @@ module _ {o : Opening} {s : State} {p : ℕ} {c : Option Command} {t : State} (s
 
   -- ---- after
 
-  state_same : (node : NodeRef) (y : PeerPart) → IsMade s node → IsPeer s node.owner step.peer → y ≡ step.new_peer → dooms (going_action step) ≡ false → (node_at y node.serial).state ≡ (node_at step.peer node.serial).state
+  pub state_same : (node : NodeRef) (y : PeerPart) → IsMade s node → IsPeer s node.owner step.peer → y ≡ step.new_peer → dooms (going_action step) ≡ false → (node_at y node.serial).state ≡ (node_at step.peer node.serial).state
   state_same node y (z, there, within) was is calm =
       let same = ap (λ w. length w.nodes) (same_peer_at s node.owner z step.peer there was) in
       ap (λ w. (node_at w node.serial).state) (is ∙ sym (parts step).is_peer)
@@ -277,11 +277,11 @@ module _ {o : Opening} {s : State} {p : ℕ} {c : Option Command} {t : State} (s
       by_own owner is was (inr (dies, inr late)) = inr (dies, inr late)
 
   -- where it is at neither
-  at_neither : (q : ℕ) (x : PeerPart) (h : HandleRecord) (y : PeerPart) (e : DriverPart) → q ≢ step.at → IsPeer s q x → Has x.handles h → 1 ≤ h.held → IsPeer s h.node.owner y → IsDriver t h.node.owner e → is_live (node_at y h.node.serial).state ≡ false → IsCovered q h y e
-  at_neither q x h y e apart is_peer there some is_owner is_driver dead =
+  pub at_neither : (q : ℕ) (h : HandleRecord) (y : PeerPart) (e : DriverPart) → q ≢ step.at → IsDriver t h.node.owner e → ((d : DriverPart) → IsDriver s h.node.owner d → IsCovered q h y d) → IsCovered q h y e
+  at_neither q h y e apart is_driver was =
       elim (driver_cases step h.node.owner e is_driver) [
-        | inr same ↦ covered.held q x h y e is_peer there some is_owner same.1 dead
-        | inl own ↦ by_own own.1 (covered.held q x h y step.driver is_peer there some is_owner (subst (λ r. IsDriver s r step.driver) (sym own.0) step.is_driver) dead)
+        | inr same ↦ was e same.1
+        | inl own ↦ by_own own.1 (was step.driver (subst (λ r. IsDriver s r step.driver) (sym own.0) step.is_driver))
       ]
     where
       by_own : e ≡ step.new_driver → IsCovered q h y step.driver → IsCovered q h y e
@@ -290,13 +290,11 @@ module _ {o : Opening} {s : State} {p : ℕ} {c : Option Command} {t : State} (s
       by_own is (inr (dies, inr late)) = inr (dies, inr late)
 
   -- where it is at the owner
-  module _ (q : ℕ) (x : PeerPart) (h : HandleRecord) (y : PeerPart) (e : DriverPart) (apart : q ≢ step.at) (is_peer : IsPeer s q x) (there : Has x.handles h) (some : 1 ≤ h.held)
+  module _ (q : ℕ) (x : PeerPart) (h : HandleRecord) (y : PeerPart) (e : DriverPart) (apart : q ≢ step.at) (is_peer : IsPeer s q x) (made : IsMade s h.node) (counts : 1 ≤ fresh s h.node q)
+      (was : (d : DriverPart) → IsDriver s h.node.owner d → is_live (node_at step.peer h.node.serial).state ≡ false → IsCovered q h step.peer d)
       (here : h.node.owner ≡ step.at) (is_new : y ≡ step.new_peer) (is_driver : IsDriver t h.node.owner e) where
     owner_was : IsPeer s h.node.owner step.peer
     owner_was = subst (λ r. IsPeer s r step.peer) (sym here) step.is_peer
-
-    made : IsMade s h.node
-    made = sound.flights.made q x h is_peer there
 
     -- the owner's driver, if it steps
     own_driver : h.node.owner ≡ p → e ≡ step.new_driver
@@ -320,21 +318,19 @@ module _ {o : Opening} {s : State} {p : ℕ} {c : Option Command} {t : State} (s
     was_dead dead = by (dooms (going_action step)) refl (driver_cases step h.node.owner e is_driver)
       where
         own : h.node.owner ≡ p → IsCovered q h step.peer step.driver
-        own owner = covered.held q x h step.peer step.driver is_peer there some owner_was (subst (λ r. IsDriver s r step.driver) (sym owner) step.is_driver) dead
+        own owner = was step.driver (subst (λ r. IsDriver s r step.driver) (sym owner) step.is_driver) dead
 
         by : (b : Bool) → dooms (going_action step) ≡ b → ((h.node.owner ≡ p) × (e ≡ step.new_driver)) ⊎ ((h.node.owner ≢ p) × IsDriver s h.node.owner e) → IsCovered q h y e
         by true doom whose = dooms_due doom (own (here ∙ doomer doom))
         by false calm (inl (owner, is)) = stays_due calm step.driver (λ visit. subst (λ d. Has (to_visit d) q) (sym is) (left_after q visit apart)) (own owner)
-        by false calm (inr (other, same)) = stays_due calm e (λ visit. visit) (covered.held q x h step.peer e is_peer there some owner_was same dead)
+        by false calm (inr (other, same)) = stays_due calm e (λ visit. visit) (was e same dead)
 
-    -- the owner counts what is held
+    -- the owner counts them
     counted_there : 1 ≤ count_of (node_at step.peer h.node.serial) q
     counted_there =
         let count : count_in s h.node q ≡ count_of (node_at step.peer h.node.serial) q = ap (counts_by h.node q) owner_was in
-        let counts : count_of (node_at step.peer h.node.serial) q ≡ amount_by h.node (slice_get s.peers q) + sum_by (driver_amount h.node q) s.drivers = sym count ∙ sound.references.counts h.node q in
-        let mine : amount_by h.node (slice_get s.peers q) ≡ (record_or_none h.node x.handles).held + queue_amount h.node x.queue + dead_amount h.node x.dead = ap (amount_by h.node) is_peer in
-        let held : (record_or_none h.node x.handles).held ≡ h.held = ap (λ z. (found_or_none h.node z).held) (record_found x.handles h (sound.rising q x is_peer) there) in
-        omega (arith, counts, mine, held, some)
+        let same : count_of (node_at step.peer h.node.serial) q ≡ fresh s h.node q = sym count ∙ sound.references.counts h.node q in
+        subst (λ n. 1 ≤ n) (sym same) counts
 
     was_live : is_live (node_at step.peer h.node.serial).state ≡ true → is_live (node_at y h.node.serial).state ≡ false → IsCovered q h y e
     was_live alive dead = by (dooms (going_action step)) refl
@@ -356,19 +352,26 @@ module _ {o : Opening} {s : State} {p : ℕ} {c : Option Command} {t : State} (s
               | inr new ↦ subst (DestructionShape step.peer.peers step.peer (parts step).command) (sym new.1) tt
             ]
 
-    at_owner : is_live (node_at y h.node.serial).state ≡ false → IsCovered q h y e
+    pub at_owner : is_live (node_at y h.node.serial).state ≡ false → IsCovered q h y e
     at_owner dead = by (is_live (node_at step.peer h.node.serial).state) refl
       where
         by : (b : Bool) → is_live (node_at step.peer h.node.serial).state ≡ b → IsCovered q h y e
         by true alive = was_live alive dead
-        by false was = was_dead was
+        by false over = was_dead over
+
+  -- what is held is counted
+  held_counted : (q : ℕ) (x : PeerPart) (h : HandleRecord) → IsPeer s q x → Has x.handles h → 1 ≤ h.held → 1 ≤ fresh s h.node q
+  held_counted q x h is_peer there some =
+      let mine : amount_by h.node (slice_get s.peers q) ≡ (record_or_none h.node x.handles).held + queue_amount h.node x.queue + dead_amount h.node x.dead = ap (amount_by h.node) is_peer in
+      let held : (record_or_none h.node x.handles).held ≡ h.held = ap (λ z. (found_or_none h.node z).held) (record_found x.handles h (sound.rising q x is_peer) there) in
+      omega (arith, mine, held, some)
 
   pub held_kept : (q : ℕ) (x : PeerPart) (h : HandleRecord) (y : PeerPart) (e : DriverPart) → IsPeer t q x → Has x.handles h → 1 ≤ h.held → IsPeer t h.node.owner y → IsDriver t h.node.owner e → is_live (node_at y h.node.serial).state ≡ false → IsCovered q h y e
   held_kept q x h y e is_peer there some is_owner is_driver dead =
       elim (peer_cases step q x is_peer) [
         | inl here ↦ at_holder q h y e here.0 (subst (λ z. Has z.handles h) here.1 there) some is_owner is_driver dead
         | inr other ↦ elim (peer_cases step h.node.owner y is_owner) [
-          | inl at ↦ at_owner q x h y e other.0 other.1 there some at.0 at.1 is_driver dead
-          | inr elsewhere ↦ at_neither q x h y e other.0 other.1 there some elsewhere.1 is_driver dead
+          | inl at ↦ at_owner q x h y e other.0 other.1 (sound.flights.made q x h other.1 there) (held_counted q x h other.1 there some) (λ d is over. covered.held q x h step.peer d other.1 there some (subst (λ r. IsPeer s r step.peer) (sym at.0) step.is_peer) is over) at.0 at.1 is_driver dead
+          | inr elsewhere ↦ at_neither q h y e other.0 is_driver (λ d is. covered.held q x h y d other.1 there some elsewhere.1 is dead)
         ]
       ]

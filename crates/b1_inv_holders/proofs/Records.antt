@@ -33,6 +33,11 @@ Handles = List HandleRecord
 abbrev pub TakenIn : PeerPart → NodeRef → Type 0
 TakenIn x node = (f : Key × Entry) × (j : ℕ) × Has x.queue f × (is_staged f ≡ false) × (slice_get (carried f.1) j ≡ Some node) × (slice_get (slots_of f.1) j ≡ Some slot.Attached)
 
+-- the event puts a message into a queue
+abbrev pub stages_action : Action → Bool
+stages_action (act.Stage peer place) = true
+stages_action action = false
+
 module _ (P : NodeRef → Type 0) where
   -- a record after another one of its node: held where that was, or where a reference came
   pub record Follows (g h : HandleRecord) : Type 0 where
@@ -217,3 +222,15 @@ module _ (P : NodeRef → Type 0) where
   held_event o memory d doing (act.Unstage peer place) x came h there some = at_unstage (find_stage x d.me place) x d.me place h there
   held_event o memory d doing (act.Visit peer) x came h there some = at_visit d.me 0 (doomed_of doing.phase) x h there
   held_event o memory d doing action x came h there some = same_handles x.handles _ (ap (λ y. y.handles) (changes o memory d doing action x)) h there some
+
+  same_from : (old new : Handles) → new ≡ old → AllFrom old new
+  same_from old new same h there = (h, subst (λ hs. Has hs h) same there, itself h)
+
+  pub record_event : (o : Opening) (memory : Bool) (d : DriverPart) (doing : Doing) (action : Action) (x : PeerPart) → stages_action action ≡ false → ((node : NodeRef) → TakenIn x node → P node) → (h : HandleRecord) → Has (happens o memory d doing action x).1.handles h → From x.handles h
+  record_event o memory d doing (act.Stage peer place) x is came h there = absurd (cc is)
+  record_event o memory d doing act.Recv x is came h there = at_recv x came h there
+  record_event o memory d doing act.Release x is came h there = at_release _ _ x h there
+  record_event o memory d doing act.Flush x is came h there = absurd there
+  record_event o memory d doing (act.Unstage peer place) x is came h there = at_unstage (find_stage x d.me place) x d.me place h there
+  record_event o memory d doing (act.Visit peer) x is came h there = at_visit d.me 0 (doomed_of doing.phase) x h there
+  record_event o memory d doing action x is came h there = same_from x.handles _ (ap (λ y. y.handles) (changes o memory d doing action x)) h there
