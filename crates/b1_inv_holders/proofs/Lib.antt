@@ -6,3 +6,4 @@ pub mod Visits
 pub mod Held
 pub mod CoverBegins
 pub mod Counted
+pub mod Carried
