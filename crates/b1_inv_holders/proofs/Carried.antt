@@ -44,14 +44,14 @@ use Rattle.b1_inv_holders.proofs.Counted.{IsAttached, driver_slots, cond_true, c
 use Rattle.b1_inv_holders.proofs.Held.{at_neither, at_owner}
 use Rattle.b1_inv_holders.proofs.SlotTurns.{NewSlot, SlotIn, in_none, slot_turn}
 
-apart_slots : slot.Unattached ≢ slot.Attached
+pub apart_slots : slot.Unattached ≢ slot.Attached
 apart_slots is = absurd (cc is)
 
 abbrev found_or_none : NodeRef → Option HandleRecord → HandleRecord
 found_or_none node found = elim found [ None ↦ no_record node | Some h ↦ h ]
 
 -- a node's record, or what stands in its place, is of that node
-record_node : (node : NodeRef) (hs : List HandleRecord) → (record_or_none node hs).node ≡ node
+pub record_node : (node : NodeRef) (hs : List HandleRecord) → (record_or_none node hs).node ≡ node
 record_node node [] = refl
 record_node node (h ∷ rest) = at (record_node node rest) (same_ref h.node node) refl
   where
@@ -105,7 +105,7 @@ module _ (o : Opening) (memory : Bool) (d : DriverPart) (command : Command) (x :
 -- ---- a step
 
 module _ {o : Opening} {s : State} {p : ℕ} {c : Option Command} {t : State} (sound : IsSound o s) (covered : HolderCovered s) (step : Step o s p c t) where
-  abbrev Newly : ℕ → ℕ → ℕ → Type 0
+  abbrev pub Newly : ℕ → ℕ → ℕ → Type 0
   Newly at j collected = NewSlot slot.Attached apart_slots (parts step).phase (going_answer step) at j collected
 
   turned_slot : (at j : ℕ) → SlotIn slot.Attached apart_slots (parts step).command (parts step).phase (going_answer step) at j step.new_driver.doing
@@ -137,7 +137,7 @@ module _ {o : Opening} {s : State} {p : ℕ} {c : Option Command} {t : State} (s
       ]
 
   -- a counted reference of an entry was one before, or the event attached it
-  slots_from : (f : Key × Entry) (j : ℕ) → IsAttached (slots_now t f) j → IsAttached (slots_now s f) j ⊎ ((is_staged f ≡ true) × (f.0.origin ≡ p) × (collected : ℕ) × Newly f.0.index j collected)
+  pub slots_from : (f : Key × Entry) (j : ℕ) → IsAttached (slots_now t f) j → IsAttached (slots_now s f) j ⊎ ((is_staged f ≡ true) × (f.0.origin ≡ p) × (collected : ℕ) × Newly f.0.index j collected)
   slots_from f j is = by (is_staged f) refl
     where
       by : (b : Bool) → is_staged f ≡ b → IsAttached (slots_now s f) j ⊎ ((is_staged f ≡ true) × (f.0.origin ≡ p) × (collected : ℕ) × Newly f.0.index j collected)

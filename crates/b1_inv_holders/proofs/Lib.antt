@@ -7,3 +7,5 @@ pub mod Held
 pub mod CoverBegins
 pub mod Counted
 pub mod Carried
+pub mod CarriedHere
+pub mod Carries
