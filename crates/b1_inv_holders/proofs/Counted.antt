@@ -29,6 +29,7 @@ use Rattle.b1_inv.specs.Sound.{IsSound}
 use Rattle.b1_inv_record.specs.Holders.{slots_now}
 use Rattle.b1_inv_refs.proofs.Amounts.{slots_amount, slots_cons, slot_amount, queue_cons, entry_amount}
 use Rattle.b1_inv_refs.proofs.Counting.{member_le}
+use Rattle.b1_inv_refs.proofs.Kept.{accepted_is}
 
 -- a slot has a counted reference
 abbrev pub IsAttached : List Slot → ℕ → Type 0
@@ -58,12 +59,6 @@ message_is o q doing k (Message origin user index serial offset len nodes slots 
 message_is o q doing k (OwnNotice serial index) h = absurd h
 message_is o q doing k (ForeignNotice node index) h = absurd h
 message_is o q doing k (ReleaseNotice serial) h = absurd h
-
-accepted_none : (places : List (Option Reason)) (at : ℕ) → is_accepted_place places at ≡ true → slice_get places at ≡ Some None
-accepted_none [] at is = absurd (cc is)
-accepted_none (None ∷ rest) zero is = refl
-accepted_none (Some r ∷ rest) zero is = absurd (cc is)
-accepted_none (r ∷ rest) (suc at) is = accepted_none rest at is
 
 module _ (node : NodeRef) where
   slots_there : (nodes : List NodeRef) (slots : List Slot) (j : ℕ) → slice_get nodes j ≡ Some node → IsAttached slots j → 1 ≤ slots_amount node nodes slots
@@ -107,7 +102,7 @@ module _ (node : NodeRef) where
   kept_place : (q : ℕ) (sending : Sending) (from at j : ℕ) → from ≤ at → is_accepted_place sending.places at ≡ true → slice_get sending.begun.with j ≡ Some node → IsAttached (get_or sending.slots at []) j → (node_of_place sending.begun.to at).owner ≡ q → 1 ≤ kept_from node q sending from 0 sending.places
   kept_place q sending from at j low accepted node_is slot_is own =
       let zero_at : at ≡ 0 + at = omega arith in
-      kept_there q sending from sending.places at 0 (omega (arith, low)) (accepted_none sending.places at accepted) (ap (λ n. (node_of_place sending.begun.to n).owner) (sym zero_at) ∙ own)
+      kept_there q sending from sending.places at 0 (omega (arith, low)) (accepted_is sending.places at accepted) (ap (λ n. (node_of_place sending.begun.to n).owner) (sym zero_at) ∙ own)
       (subst (λ n. 1 ≤ amount_in node (place_references sending n)) zero_at (slots_there sending.begun.with (get_or sending.slots at []) j node_is slot_is))
 
   kept_phase : (q : ℕ) (phase : Phase) (at j : ℕ) → waits_at phase at ≡ true → slice_get (begun_of phase).with j ≡ Some node → IsAttached (slots_at phase at) j → (node_of_place (begun_of phase).to at).owner ≡ q → 1 ≤ kept_amount node q phase
