@@ -1,8 +1,6 @@
 -- Whoever has an entry with a counted reference to a node that isn't live is covered.
-use Rattle.std.proofs.Common.{◌≡◌, ◌≢◌, ◌⊎◌, refl, sym, ap, subst, ◌∙◌, inl, inr, ℕ, ◌+◌, ◌<◌, ◌≤◌, ◌==◌, Bool, true, false, cond, List, [], ◌∷◌, get_or, length, Option, Some, None}
+use Rattle.std.proofs.Common.{◌≡◌, ◌≢◌, ◌⊎◌, refl, sym, ap, subst, ◌∙◌, inl, inr, ℕ, ◌<◌, ◌≤◌, ◌==◌, Bool, true, false, cond, List, [], ◌∷◌, length, Option, Some, None}
 use Rattle.std.specs.Prelude.{slice_get}
-use Rattle.std.specs.List.{All}
-use Rattle.std.proofs.lemmas.Bool.{eq-eqb}
 use Rattle.std.proofs.lemmas.Option.{same_Some, slice_get_within, get_or_from_slice_get}
 use Rattle.std.proofs.lemmas.List.Elements.{All-get_or}
 use native.Mathlib.Omega.{arith}
@@ -10,12 +8,10 @@ use Rattle.b1_model.specs.declared.commands.Command.{Command}
 use Rattle.b1_model.specs.declared.naming.Key.{Key}
 use Rattle.b1_model.specs.declared.naming.NodeRef.{NodeRef}
 use Rattle.b1_model.specs.declared.naming.Opening.{Opening}
-use Rattle.b1_model.specs.declared.answers.Reason.{Reason}
 use Rattle.b1_model.specs.declared.parts.Attach.{Attach}
 use Rattle.b1_model.specs.declared.parts.Attach.TheVariants as attach
 use Rattle.b1_model.specs.declared.parts.NodeState.{NodeState}
 use Rattle.b1_model.specs.declared.parts.NodeState.TheVariants.{Live, Dying, Destroyed}
-use Rattle.b1_model.specs.declared.parts.Slot.{Slot}
 use Rattle.b1_model.specs.declared.parts.Slot.TheVariants as slot
 use Rattle.b1_model.specs.declared.entries.Entry.{Entry}
 use Rattle.b1_model.specs.declared.events.Doing.{Doing}
@@ -23,7 +19,7 @@ use Rattle.b1_model.specs.declared.events.OwedDrop.{OwedDrop}
 use Rattle.b1_model.specs.declared.events.Outcome.TheVariants as out
 use Rattle.b1_model.specs.declared.events.Phase.{Phase}
 use Rattle.b1_model.specs.declared.events.Phase.TheVariants.{Starting, Attaching}
-use Rattle.b1_model.specs.MachineParts.{PeerPart, DriverPart, HandleRecord, State, is_live, is_dying, is_staged, node_at, no_node, no_record, same_ref, record_of, record_or_none, carried, slots_of}
+use Rattle.b1_model.specs.MachineParts.{PeerPart, DriverPart, HandleRecord, State, is_live, is_dying, is_staged, node_at, no_record, same_ref, record_of, record_or_none, carried, slots_of}
 use Rattle.b1_model.specs.MachineTables.{with_peer, counted}
 use Rattle.b1_model.specs.MachineSend.{attach_by, attach_answer, attached_by}
 use Rattle.b1_model.specs.MachineDriver.{next_action, peer_of, node_of_place, no_ref}
@@ -34,11 +30,11 @@ use Rattle.b1_step.specs.Rights.{Has}
 use Rattle.b1_step.proofs.Orders.{same_ref_is}
 use Rattle.b1_inv.specs.Words.{IsPeer, IsDriver, IsMade}
 use Rattle.b1_inv.specs.Sound.{IsSound}
-use Rattle.b1_inv_record.specs.Holders.{HolderCovered, IsCovered, IsDue, slots_now}
+use Rattle.b1_inv_record.specs.Holders.{HolderCovered, IsCovered, slots_now}
 use Rattle.b1_inv_tools.proofs.Leaves.{driver_cases, peer_cases, new_peer}
 use Rattle.b1_inv_notices.proofs.Nodes.{node_kept}
 use Rattle.b1_inv_notices.proofs.Sets.{has_peer_new}
-use Rattle.b1_inv_notices.proofs.Turns.{doing_in, opened, answered, took_leaves, parts, going, going_doing, going_action, going_answer}
+use Rattle.b1_inv_notices.proofs.Turns.{opened, answered, took_leaves, parts, going_doing, going_answer}
 use Rattle.b1_inv_cover.proofs.Stamped.{same_peer_at}
 use Rattle.b1_inv_holders.proofs.Counted.{IsAttached, driver_slots, cond_true, cond_false, carries_data, message_is, entry_counted}
 use Rattle.b1_inv_holders.proofs.Held.{at_neither, at_owner}
@@ -95,10 +91,11 @@ module _ (o : Opening) (memory : Bool) (d : DriverPart) (command : Command) (x :
       by attach.Counted was (there, here, filled, low) dead =
           let same : serial ≡ node.serial = ap (λ n. (node_of_place sending.begun.with n).serial) (sym here) ∙ ap (λ n. n.serial) (get_or_from_slice_get sending.begun.with j node no_ref is) in
           let state = (node_kept (counted dest) (λ n. refl) serial x.nodes).state node.serial within in
-          let dies : is_dying (node_at x serial).state ≡ true = counted_dying (node_at x serial).state (dest == x.me) was (ap (λ n. is_live (node_at x n).state) same ∙ ap is_live (sym state) ∙ dead) in
-          (ap is_dying state ∙ ap (λ n. is_dying (node_at x n).state) (sym same) ∙ dies,
+          let dies : is_dying (node_at x serial).state ≡ true = counted_dying (node_at x serial).state (dest == x.me) was (ap (λ n. is_live (node_at x n).state) same ∙ ap is_live (sym state) ∙ dead) in (
+            ap is_dying state ∙ ap (λ n. is_dying (node_at x n).state) (sym same) ∙ dies,
             subst (λ n. Has (cond (is_dying (node_at x serial).state) (with_peer dest x.late) x.late) (node_of_place sending.begun.to n).owner) (sym there)
-            (subst (λ b. Has (cond b (with_peer dest x.late) x.late) dest) (sym dies) (has_peer_new dest x.late)))
+                (subst (λ b. Has (cond b (with_peer dest x.late) x.late) dest) (sym dies) (has_peer_new dest x.late)),
+          )
   attach_new (Attaching sending place handle) (one ∷ rest) at j collected node new is within dead = absurd new
   attach_new phase owed at j collected node new is within dead = absurd new
 

@@ -1,7 +1,6 @@
 -- Whoever has an entry with a counted reference to a node that isn't live is covered, where the event is at that peer.
-use Rattle.std.proofs.Common.{◌≡◌, ◌≢◌, ◌⊎◌, refl, sym, ap, subst, ◌∙◌, inl, inr, ℕ, zero, suc, ◌+◌, ◌<◌, ◌≤◌, ◌==◌, Bool, true, false, cond, List, [], ◌∷◌, get_or, length, Option, Some, None}
-use Rattle.std.specs.Prelude.{⊤, slice_get, sum_by}
-use Rattle.std.proofs.lemmas.Option.{same_Some}
+use Rattle.std.proofs.Common.{◌≡◌, ◌≢◌, refl, sym, ap, subst, ◌∙◌, inl, inr, ℕ, ◌≤◌, Bool, true, false, cond, List, [], ◌∷◌, Option, Some, None}
+use Rattle.std.specs.Prelude.{⊤, slice_get}
 use native.Mathlib.Omega.{arith}
 use Rattle.b1_model.specs.declared.naming.Key.{Key}
 use Rattle.b1_model.specs.declared.naming.NodeRef.{NodeRef}
@@ -12,7 +11,7 @@ use Rattle.b1_model.specs.declared.entries.Entry.{Entry}
 use Rattle.b1_model.specs.declared.events.Action.{Action}
 use Rattle.b1_model.specs.declared.events.Action.TheVariants as act
 use Rattle.b1_model.specs.declared.events.Doing.{Doing}
-use Rattle.b1_model.specs.MachineParts.{PeerPart, DriverPart, HandleRecord, State, is_live, is_dying, is_staged, node_at, no_record, same_ref, record_of, record_or_none, carried, slots_of}
+use Rattle.b1_model.specs.MachineParts.{PeerPart, DriverPart, HandleRecord, State, is_live, is_dying, node_at, no_record, same_ref, record_of, record_or_none, carried}
 use Rattle.b1_model.specs.MachineTables.{changed_or_made, more_flight, expected, foreign, count_of}
 use Rattle.b1_model.specs.MachineCounts.{fresh}
 use Rattle.b1_model.specs.MachineEvents.{happens, stage_by}
@@ -22,7 +21,7 @@ use Rattle.b1_step.specs.Ordered.{Rising}
 use Rattle.b1_step.proofs.Lookups.{own_made, other_made, rising_made}
 use Rattle.b1_step.proofs.Orders.{same_ref_is, same_ref_itself}
 use Rattle.b1_inv.specs.Words.{IsPeer, IsDriver}
-use Rattle.b1_inv.specs.References.{FlightsRight, count_in, times_in, carried_times}
+use Rattle.b1_inv.specs.References.{times_in, carried_times}
 use Rattle.b1_inv.specs.Sound.{IsSound}
 use Rattle.b1_inv_record.specs.Holders.{HolderCovered, IsCovered, IsDue, slots_now}
 use Rattle.b1_inv_tools.proofs.Leaves.{driver_cases, peer_cases, new_peer}
@@ -32,9 +31,9 @@ use Rattle.b1_inv_refs.proofs.GivenUp.{record_found, found_has}
 use Rattle.b1_inv_notices.proofs.OwnCount.{own_count_none}
 use Rattle.b1_inv_notices.proofs.Sets.{has_index}
 use Rattle.b1_inv_notices.proofs.Turns.{parts, going, going_doing, going_action}
-use Rattle.b1_inv_holders.proofs.Records.{Follows, From, stages_action, record_event}
+use Rattle.b1_inv_holders.proofs.Records.{stages_action, record_event}
 use Rattle.b1_inv_holders.proofs.Visits.{Flagged, still_flagged}
-use Rattle.b1_inv_holders.proofs.Counted.{IsAttached, entry_counted}
+use Rattle.b1_inv_holders.proofs.Counted.{IsAttached}
 use Rattle.b1_inv_holders.proofs.Held.{visited_flags}
 use Rattle.b1_inv_holders.proofs.Carried.{record_node}
 

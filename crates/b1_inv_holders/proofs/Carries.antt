@@ -1,9 +1,8 @@
 -- Whoever has an entry with a counted reference to a node that isn't live is covered after each step.
-use Rattle.std.proofs.Common.{◌≡◌, ◌≢◌, ◌⊎◌, refl, sym, ap, subst, ◌∙◌, inl, inr, ℕ, ◌+◌, ◌%◌, ◌≤◌, ◌==◌, Bool, true, false, cond, List, [], ◌∷◌, get_or, Option, Some, None}
+use Rattle.std.proofs.Common.{◌≡◌, ◌≢◌, refl, sym, ap, subst, ◌∙◌, inl, inr, ℕ, ◌%◌, ◌==◌, Bool, true, false, cond, List, [], ◌∷◌, get_or, Option, Some, None}
 use Rattle.std.specs.Prelude.{slice_get}
 use Rattle.std.proofs.lemmas.Bool.{eq-eqb}
 use Rattle.std.proofs.lemmas.Option.{same_Some}
-use native.Mathlib.Omega.{arith}
 use Rattle.b1_model.specs.declared.commands.Command.{Command}
 use Rattle.b1_model.specs.declared.commands.Command.TheVariants as cmd
 use Rattle.b1_model.specs.declared.naming.Key.{Key}
@@ -18,13 +17,12 @@ use Rattle.b1_model.specs.declared.parts.NodeState.TheVariants.{Live, Dying, Des
 use Rattle.b1_model.specs.declared.parts.Slot.{Slot}
 use Rattle.b1_model.specs.declared.parts.Slot.TheVariants as slot
 use Rattle.b1_model.specs.declared.events.Action.TheVariants as act
-use Rattle.b1_model.specs.declared.events.Doing.{Doing}
 use Rattle.b1_model.specs.declared.events.OwedDrop.{OwedDrop}
 use Rattle.b1_model.specs.declared.events.Outcome.{Outcome}
 use Rattle.b1_model.specs.declared.events.Outcome.TheVariants as out
 use Rattle.b1_model.specs.declared.events.Phase.{Phase}
 use Rattle.b1_model.specs.declared.events.Phase.TheVariants.{Starting, Staging, Attaching, Committing, Visiting, CommittingOwn, CommittingNotices}
-use Rattle.b1_model.specs.MachineParts.{PeerPart, DriverPart, State, is_live, is_staged, is_data, is_odd, node_at, record_or_none, carried, slots_of}
+use Rattle.b1_model.specs.MachineParts.{PeerPart, DriverPart, State, is_live, is_staged, is_data, node_at, record_or_none, carried, slots_of}
 use Rattle.b1_model.specs.MachineTables.{is_stage}
 use Rattle.b1_model.specs.MachineSend.{attach_by, attach_answer, with_slots}
 use Rattle.b1_model.specs.MachineDriver.{first_action, next_action, node_of_place}
@@ -46,7 +44,7 @@ use Rattle.b1_inv_cover.proofs.Stamped.{was_open}
 use Rattle.b1_inv_holders.proofs.Counted.{IsAttached, driver_slots, cond_true, cond_false, carries_data, message_is, entry_counted}
 use Rattle.b1_inv_holders.proofs.SlotTurns.{NewSlot}
 use Rattle.b1_inv_holders.proofs.Carried.{apart_slots, Newly, slots_from, carried_else}
-use Rattle.b1_inv_holders.proofs.CarriedHere.{foreign_node, after, after_is, here_old}
+use Rattle.b1_inv_holders.proofs.CarriedHere.{foreign_node, after_is, here_old}
 
 new_slots : (slots : List Slot) (e : Entry) → is_data e ≡ true → (slots_of (with_slots slots e) ≡ slots) × (carried (with_slots slots e) ≡ carried e)
 new_slots slots (Message origin user index serial offset len nodes old handles payload) is = (refl, refl)
@@ -126,7 +124,7 @@ module _ {o : Opening} {s : State} {p : ℕ} {c : Option Command} {t : State} (s
           | inr new ↦ absurd (never new.2 new.3)
           | inl old ↦
               let now : slots_now s f ≡ [] =
-                  cond_true (is_staged f) (driver_slots (slice_get s.drivers f.0.origin) f.0.index) (slots_of f.1) odd ∙ ap (λ z. driver_slots z f.0.index) (ap (slice_get s.drivers) (origin ∙ is_me) ∙ step.is_driver) ∙ ap (λ z. elim z [ None ↦ [] | Some doing ↦ slots_at doing.phase f.0.index ]) open_is ∙ none f.0.index in
+              cond_true (is_staged f) (driver_slots (slice_get s.drivers f.0.origin) f.0.index) (slots_of f.1) odd ∙ ap (λ z. driver_slots z f.0.index) (ap (slice_get s.drivers) (origin ∙ is_me) ∙ step.is_driver) ∙ ap (λ z. elim z [ None ↦ [] | Some doing ↦ slots_at doing.phase f.0.index ]) open_is ∙ none f.0.index in
               let never_there : slice_get (slots_at Starting 0) j ≡ Some slot.Attached = ap (λ l. slice_get l j) (sym now) ∙ old in absurd (cc never_there)
         ]
 
@@ -140,8 +138,8 @@ module _ {o : Opening} {s : State} {p : ℕ} {c : Option Command} {t : State} (s
         let slot_there : IsAttached (slots_at (parts step).phase place) j = ap (λ l. slice_get l j) (sym (ap (λ h. slots_of h.1) same ∙ parts_are.0 ∙ slots_is)) ∙ slot_of_f in
         let node_there : slice_get (carried g.1) j ≡ Some node = ap (λ l. slice_get l j) (sym (ap (λ h. carried h.1) same ∙ parts_are.1)) ∙ node_is in
         let now : slots_now s g ≡ slots_at (parts step).phase place =
-            cond_true (is_staged g) (driver_slots (slice_get s.drivers g.0.origin) g.0.index) (slots_of g.1) (stage_staged step.driver.me place g stage) ∙ ap (λ z. driver_slots z g.0.index) (ap (slice_get s.drivers) (is.1 ∙ is_me) ∙ step.is_driver)
-            ∙ ap (λ z. elim z [ None ↦ [] | Some doing ↦ slots_at doing.phase g.0.index ]) open_is ∙ ap (slots_at (parts step).phase) is.2 in
+        cond_true (is_staged g) (driver_slots (slice_get s.drivers g.0.origin) g.0.index) (slots_of g.1) (stage_staged step.driver.me place g stage) ∙ ap (λ z. driver_slots z g.0.index) (ap (slice_get s.drivers) (is.1 ∙ is_me) ∙ step.is_driver)
+        ∙ ap (λ z. elim z [ None ↦ [] | Some doing ↦ slots_at doing.phase g.0.index ]) open_is ∙ ap (slots_at (parts step).phase) is.2 in
         by_old g j was node_there (ap (λ l. slice_get l j) now ∙ slot_there)
 
     first_new : (shut : Bool) (begins : Command) → Comes o (opened step.driver (parts step).command Starting []) (doing_in (parts step).command Starting) step.peer (cond shut act.Local (first_action begins)) f → Covered

@@ -1,6 +1,6 @@
 -- A counted reference in an entry of a queue is one of those that the owner counts.
 use Rattle.std.proofs.Common.{◌≡◌, refl, sym, ap, subst, ◌∙◌, inl, inr, ℕ, zero, suc, ◌+◌, ◌≤◌, ◌==◌, ◌&&◌, Bool, true, false, cond, nat_le, List, [], ◌∷◌, get_or, Option, Some, None}
-use Rattle.std.specs.Prelude.{slice_get, sum_by}
+use Rattle.std.specs.Prelude.{slice_get}
 use Rattle.std.proofs.lemmas.Bool.{eq-eqb, le-leb, leb-true, and_parts}
 use Rattle.std.proofs.lemmas.Option.{same_Some}
 use native.Mathlib.Omega.{arith}
@@ -23,7 +23,7 @@ use Rattle.b1_model.specs.MachineCounts.{amount_in, queue_amount, dead_amount, o
 use Rattle.b1_model.specs.MachineEvents.{begun_of, slots_at}
 use Rattle.b1_step.specs.Rights.{Has}
 use Rattle.b1_step.proofs.Orders.{same_ref_itself}
-use Rattle.b1_inv.specs.Words.{IsPeer, IsDriver, is_accepted_place, waits_at}
+use Rattle.b1_inv.specs.Words.{IsPeer, is_accepted_place, waits_at}
 use Rattle.b1_inv.specs.Stages.{IsMessageOf}
 use Rattle.b1_inv.specs.Sound.{IsSound}
 use Rattle.b1_inv_record.specs.Holders.{slots_now}
@@ -67,7 +67,7 @@ module _ (node : NodeRef) where
   slots_there (n ∷ nodes) (t ∷ slots) zero node_is slot_is =
       let cons = slots_cons node n t nodes slots in
       let one : slot_amount node n t ≡ 1 =
-          ap (slot_amount node n) (same_Some t slot.Attached slot_is) ∙ ap (λ b. cond b 1 0) (ap (λ m. same_ref m node) (same_Some n node node_is) ∙ same_ref_itself node) in
+      ap (slot_amount node n) (same_Some t slot.Attached slot_is) ∙ ap (λ b. cond b 1 0) (ap (λ m. same_ref m node) (same_Some n node node_is) ∙ same_ref_itself node) in
       omega (arith, cons, one)
   slots_there (n ∷ nodes) (t ∷ slots) (suc j) node_is slot_is = let cons = slots_cons node n t nodes slots in let more = slots_there nodes slots j node_is slot_is in omega (arith, cons, more)
 
@@ -131,7 +131,7 @@ module _ (o : Opening) (s : State) (sound : IsSound o s) (q j : ℕ) (x : PeerPa
           let k = sound.stages.sender q x f is_peer there (carries_data f.1 j node node_is) odd in
           let m = message_is o q k.doing f.0 f.1 k.message in
           let now : slots_now s f ≡ slots_at k.doing.phase f.0.index =
-              cond_true (is_staged f) (driver_slots (slice_get s.drivers f.0.origin) f.0.index) (slots_of f.1) odd ∙ ap (λ z. driver_slots z f.0.index) k.is_driver ∙ ap (λ z. elim z [ None ↦ [] | Some doing ↦ slots_at doing.phase f.0.index ]) k.is_open in
+          cond_true (is_staged f) (driver_slots (slice_get s.drivers f.0.origin) f.0.index) (slots_of f.1) odd ∙ ap (λ z. driver_slots z f.0.index) k.is_driver ∙ ap (λ z. elim z [ None ↦ [] | Some doing ↦ slots_at doing.phase f.0.index ]) k.is_open in
           let some = kept_phase node q k.doing.phase f.0.index j k.waits (ap (λ l. slice_get l j) (sym m.0) ∙ node_is) (ap (λ l. slice_get l j) (sym now) ∙ slot_is) m.1 in
           let mine : driver_amount node q k.driver ≡ owed_amount node q k.driver.owed + kept_amount node q k.doing.phase = ap (λ z. owed_amount node q k.driver.owed + open_kept node q z) k.is_open in
           let within = member_le (driver_amount node q) s.drivers f.0.origin k.driver k.is_driver in

@@ -1,16 +1,14 @@
 -- When a bus begins each node is live and nothing is queued, so nobody has to be covered.
-use Rattle.std.proofs.Common.{◌≡◌, refl, sym, ap, subst, ◌∙◌, inl, inr, ℕ, ◌<◌, Bool, true, false, cond, List, get_or, length, Option, Some}
-use Rattle.std.specs.Prelude.{slice_get}
+use Rattle.std.proofs.Common.{◌≡◌, refl, sym, ap, subst, ◌∙◌, inl, inr, ℕ, ◌<◌, true, false, cond, List, get_or, length}
 use Rattle.std.proofs.lemmas.Bool.{cases_lt}
 use Rattle.std.proofs.lemmas.Option.{same_Some}
 use native.Mathlib.Omega.{arith}
-use Rattle.b1_model.specs.declared.naming.NodeRef.{NodeRef}
 use Rattle.b1_model.specs.declared.naming.Opening.{Opening}
 use Rattle.b1_model.specs.declared.parts.NodeState.TheVariants.{Live}
 use Rattle.b1_model.specs.Names.{is_own}
-use Rattle.b1_model.specs.MachineParts.{PeerPart, NodePart, State, no_node, node_at, is_live}
+use Rattle.b1_model.specs.MachineParts.{PeerPart, NodePart, no_node, node_at, is_live}
 use Rattle.b1_model.specs.MachineTables.{with_made, counted}
-use Rattle.b1_model.specs.MachineStep.{wire_made, wire_counted, wire_held, opening_state}
+use Rattle.b1_model.specs.MachineStep.{wire_made, opening_state}
 use Rattle.b1_model.specs.Opening.{IsOpening}
 use Rattle.b1_step.specs.Rights.{Has}
 use Rattle.b1_inv.specs.Words.{IsPeer}

@@ -1,52 +1,47 @@
 -- Whoever holds a node that isn't live is covered.
 use Rattle.std.proofs.Common.{◌≡◌, ◌≢◌, ◌⊎◌, refl, sym, ap, subst, ◌∙◌, inl, inr, ℕ, ◌+◌, ◌<◌, ◌≤◌, Bool, true, false, cond, List, [], ◌∷◌, get_or, length, Option, Some, None, Ok, Err}
-use Rattle.std.specs.Prelude.{slice_get, sum_by}
-use Rattle.std.proofs.lemmas.Option.{same_Some, slice_get_within}
+use Rattle.std.specs.Prelude.{slice_get}
+use Rattle.std.proofs.lemmas.Option.{slice_get_within}
 use native.Mathlib.Omega.{arith}
 use Rattle.b1_model.specs.declared.commands.Command.{Command}
 use Rattle.b1_model.specs.declared.commands.Command.TheVariants as cmd
-use Rattle.b1_model.specs.declared.naming.Key.{Key}
 use Rattle.b1_model.specs.declared.naming.NodeRef.{NodeRef}
 use Rattle.b1_model.specs.declared.naming.Opening.{Opening}
 use Rattle.b1_model.specs.declared.answers.Reason.{Reason}
 use Rattle.b1_model.specs.declared.parts.Attach.{Attach}
 use Rattle.b1_model.specs.declared.parts.Attach.TheVariants as attach
-use Rattle.b1_model.specs.declared.parts.NodeState.TheVariants.{Live, Dying, Destroyed}
+use Rattle.b1_model.specs.declared.parts.NodeState.TheVariants.{Dying, Destroyed}
 use Rattle.b1_model.specs.declared.parts.Slot.{Slot}
-use Rattle.b1_model.specs.declared.parts.Slot.TheVariants as slot
-use Rattle.b1_model.specs.declared.entries.Entry.{Entry}
 use Rattle.b1_model.specs.declared.events.Action.{Action}
 use Rattle.b1_model.specs.declared.events.Action.TheVariants as act
-use Rattle.b1_model.specs.declared.events.Destruction.{Destruction}
 use Rattle.b1_model.specs.declared.events.Doing.{Doing}
 use Rattle.b1_model.specs.declared.events.OwedDrop.{OwedDrop}
-use Rattle.b1_model.specs.declared.events.Outcome.{Outcome}
 use Rattle.b1_model.specs.declared.events.Outcome.TheVariants as out
 use Rattle.b1_model.specs.declared.events.Phase.{Phase}
 use Rattle.b1_model.specs.declared.events.Phase.TheVariants.{Starting, Visiting, Dooming}
-use Rattle.b1_model.specs.MachineParts.{PeerPart, DriverPart, HandleRecord, State, is_live, is_dying, is_staged, node_at, no_node, no_record, record_of, record_or_none, carried, slots_of}
+use Rattle.b1_model.specs.MachineParts.{PeerPart, DriverPart, HandleRecord, State, is_live, is_dying, is_staged, node_at, no_node, no_record, record_of, record_or_none, slots_of}
 use Rattle.b1_model.specs.MachineTables.{count_of, with_peer}
 use Rattle.b1_model.specs.MachineSend.{attach_answer, attached_by, final_stamp}
-use Rattle.b1_model.specs.MachineDestroy.{doom_by, doomed_part, visit_set, visited_from}
+use Rattle.b1_model.specs.MachineDestroy.{doom_by, doomed_part, visit_set}
 use Rattle.b1_model.specs.MachineDriver.{first_action, next_action, peer_of, destroying}
 use Rattle.b1_model.specs.MachineTook.{took}
-use Rattle.b1_model.specs.MachineCounts.{fresh, peer_amount, queue_amount, dead_amount, driver_amount}
+use Rattle.b1_model.specs.MachineCounts.{fresh, peer_amount, queue_amount, dead_amount}
 use Rattle.b1_model.specs.MachineEvents.{happens, destroy_by, begin_refusal, begin_serials, doomed_of}
-use Rattle.b1_model.specs.MachineStep.{Step, opening_state}
+use Rattle.b1_model.specs.MachineStep.{Step}
 use Rattle.b1_step.specs.Rights.{Has}
 use Rattle.b1_step.proofs.Changed.{changes}
-use Rattle.b1_inv.specs.Words.{IsPeer, IsDriver, IsMade, phase_of}
-use Rattle.b1_inv.specs.Notices.{dying_of, dying_now, DestructionShape}
+use Rattle.b1_inv.specs.Words.{IsPeer, IsDriver, IsMade}
+use Rattle.b1_inv.specs.Notices.{dying_of, DestructionShape}
 use Rattle.b1_inv.specs.References.{count_in, may_owe}
 use Rattle.b1_inv.specs.Sound.{IsSound}
-use Rattle.b1_inv_record.specs.Holders.{HolderCovered, IsCovered, IsDue, left_of, to_visit, slots_now}
+use Rattle.b1_inv_record.specs.Holders.{HolderCovered, IsCovered, IsDue, left_of, to_visit}
 use Rattle.b1_inv_tools.proofs.Leaves.{driver_cases, peer_cases}
 use Rattle.b1_inv_refs.proofs.GivenUp.{record_found}
 use Rattle.b1_inv_notices.proofs.Nodes.{dooms, nodes_kept, doomed_state, undoomed_state}
 use Rattle.b1_inv_notices.proofs.Sets.{in_or_not, has_with_peer}
 use Rattle.b1_inv_notices.proofs.Turns.{doing_in, opened, answered, took_leaves, parts, going, going_doing, going_action, going_answer}
-use Rattle.b1_inv_cover.proofs.Stamped.{same_peer_at, peer_before}
-use Rattle.b1_inv_holders.proofs.Records.{TakenIn, Follows, itself, From, held_event}
+use Rattle.b1_inv_cover.proofs.Stamped.{same_peer_at}
+use Rattle.b1_inv_holders.proofs.Records.{TakenIn, From, held_event}
 use Rattle.b1_inv_holders.proofs.Visits.{Flagged, still_flagged, visit_flags, visit_has, LeftIn, left_visiting, left_turn, left_ends}
 
 -- ---- phases
@@ -118,8 +113,10 @@ module _ (o : Opening) (memory : Bool) (d : DriverPart) (command : Command) (x :
     begin_by None doomed =
         elim (in_or_not serial doomed) [
           | inr none ↦ still_alive (doomed_part x doomed) (took (opened d command Starting []) (destroy_by None doomed x).0).doing (ap (λ n. n.state) (undoomed_state Dying doomed x.nodes serial none))
-          | inl there ↦ (λ dead. (ap is_dying (doomed_state Dying doomed x.nodes serial there within),
-              took_leaves (LeftIn q) command (left_ends command q) d Starting [] (out.BeginDestroy (Ok (visit_set x doomed)) doomed) (left_destroying doomed (visit_set x doomed) there (visit_has x q doomed serial few there some))))
+          | inl there ↦ (λ dead. (
+            ap is_dying (doomed_state Dying doomed x.nodes serial there within),
+            took_leaves (LeftIn q) command (left_ends command q) d Starting [] (out.BeginDestroy (Ok (visit_set x doomed)) doomed) (left_destroying doomed (visit_set x doomed) there (visit_has x q doomed serial few there some)),
+          ))
         ]
 
   abbrev DoomBegins : Phase → List OwedDrop → Type 0
@@ -212,7 +209,7 @@ module _ {o : Opening} {s : State} {p : ℕ} {c : Option Command} {t : State} (s
   visited_flags q h y left there owner is dies =
       let among = dying_doomed (parts step).phase h.node.serial (doomed_here y h.node.serial is dies) in
       let after : (happens o step.local.memory (going step) (going_doing step) (act.Visit (get_or (left_of (parts step).phase) 0 step.driver.me)) step.peer).1 ≡ step.new_peer =
-          ap (λ a. (happens o step.local.memory (going step) (going_doing step) a step.peer).1) (sym (visits q left)) ∙ (parts step).is_peer in
+      ap (λ a. (happens o step.local.memory (going step) (going_doing step) a step.peer).1) (sym (visits q left)) ∙ (parts step).is_peer in
       let node : h.node ≡ record { owner = step.driver.me; serial = h.node.serial } = ap (λ n. record { owner = n; serial = h.node.serial }) (owner ∙ sym is_me) in
       visit_flags step.driver.me 0 (doomed_of (parts step).phase) step.peer (sound.rising step.at step.peer step.is_peer) h.node.serial among h (subst (λ z. Has z.handles h) (sym after) there) node
 
@@ -342,9 +339,11 @@ module _ {o : Opening} {s : State} {p : ℕ} {c : Option Command} {t : State} (s
             let same = ap (λ w. length w.nodes) (same_peer_at s h.node.owner made.0 step.peer made.1 owner_was) in
             let within = made.2 in
             let k = doom_begins o step.local.memory step.driver (parts step).command step.peer q h.node.serial alive (omega (arith, within, same)) (omega (arith, few, sound.numbered.as_many_peers, (sound.numbered.peers step.at step.peer step.is_peer).peers)) counted_there
-                (parts step).phase step.driver.owed doom shape (ap (λ z. is_live (node_at z h.node.serial).state) ((parts step).is_peer ∙ sym is_new) ∙ dead) in
-            inr (ap (λ z. is_dying (node_at z h.node.serial).state) (is_new ∙ sym (parts step).is_peer) ∙ k.0,
-              inl (subst (λ d. Has (to_visit d) q) (sym (own_driver (here ∙ doomer doom))) (left_to_visit q step.new_driver.doing (subst (λ d. LeftIn q d.doing) (parts step).is_driver k.1))))
+            (parts step).phase step.driver.owed doom shape (ap (λ z. is_live (node_at z h.node.serial).state) ((parts step).is_peer ∙ sym is_new) ∙ dead) in
+            inr (
+              ap (λ z. is_dying (node_at z h.node.serial).state) (is_new ∙ sym (parts step).is_peer) ∙ k.0,
+              inl (subst (λ d. Has (to_visit d) q) (sym (own_driver (here ∙ doomer doom))) (left_to_visit q step.new_driver.doing (subst (λ d. LeftIn q d.doing) (parts step).is_driver k.1))),
+            )
           where
             shape : DestructionShape step.peer.peers step.peer (parts step).command (parts step).phase
             shape = elim (parts step).was [

@@ -1,6 +1,5 @@
 -- Visits: a visited peer has a notice of each doomed node that it has a record of; and who is still to be visited after an answer.
-use Rattle.std.proofs.Common.{◌≡◌, ◌≢◌, ◌⊎◌, refl, sym, ap, subst, ◌∙◌, inl, inr, ℕ, zero, suc, ◌+◌, ◌<◌, ◌≤◌, ◌==◌, ◌||◌, Bool, true, false, cond, not, nat_lt, List, [], ◌∷◌, drop, filter, get_or, length, find, Option, Some, None, Ok, Err}
-use Rattle.std.specs.Prelude.{slice_get}
+use Rattle.std.proofs.Common.{◌≡◌, ◌≢◌, ◌⊎◌, refl, sym, ap, ◌∙◌, inl, inr, ℕ, zero, suc, ◌+◌, ◌<◌, ◌≤◌, ◌||◌, Bool, true, false, cond, not, nat_lt, List, [], ◌∷◌, drop, get_or, Option, Some, None}
 use Rattle.std.specs.List.{list_any, range_with_len}
 use Rattle.std.proofs.lemmas.Bool.{lt-ltb, cases_eq}
 use Rattle.std.proofs.lemmas.Option.{same_Some}
@@ -12,8 +11,8 @@ use Rattle.b1_model.specs.declared.events.Doing.{Doing}
 use Rattle.b1_model.specs.declared.events.Outcome.{Outcome}
 use Rattle.b1_model.specs.declared.events.Outcome.TheVariants as out
 use Rattle.b1_model.specs.declared.events.Phase.{Phase}
-use Rattle.b1_model.specs.declared.events.Phase.TheVariants.{Starting, Staging, Unstaging, Attaching, Stamping, Syncing, Committing, Dropping, Reaping, Visiting, Dooming, SyncingNotices, CommittingOwn, CommittingNotices, Flushing}
-use Rattle.b1_model.specs.MachineParts.{PeerPart, HandleRecord, same_ref, record_of, node_at}
+use Rattle.b1_model.specs.declared.events.Phase.TheVariants.{Visiting}
+use Rattle.b1_model.specs.MachineParts.{PeerPart, HandleRecord, record_of, node_at}
 use Rattle.b1_model.specs.MachineTables.{is_needed, changed, noticed, count_of}
 use Rattle.b1_model.specs.MachineDestroy.{needs_notice, notice_by, visited_from, visit_set}
 use Rattle.b1_model.specs.MachineDriver.{turn, visiting, with_visit}
