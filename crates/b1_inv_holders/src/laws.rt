@@ -10,8 +10,9 @@ ghost use Rattle.b1_inv_record.specs.Right.{IsRight};
 
 /// Every bus begins with the holders of nodes that aren't live covered, and a step keeps them so: a peer that holds such a
 /// node, or has an entry with a counted reference to it, has its destroy notice queued, or the notice has left the queue,
-/// or the node is dying and the peer is still to be visited. No bus begins with a void slot, and a step leaves every void slot right: its node is destroyed, the open SEND has
-/// collected the stamp of that destruction, and a committed message has a later one.
+/// or the node is dying and the peer is still to be visited. No bus begins with a void slot, and a step leaves every void
+/// slot right: its node is destroyed, the open SEND has collected the stamp of that destruction, and a committed message
+/// has a later one.
 pub fn holders_of_ended_nodes()
     ensures opening_HolderCovered { (o : Opening) → IsOpening o → HolderCovered (opening_state o) }
     ensures kept_HolderCovered { (o : Opening) (s : State) (p : ℕ) (c : Option Command) (t : State) → IsSound o s → IsRight o s
