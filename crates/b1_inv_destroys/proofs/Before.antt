@@ -10,7 +10,7 @@ use Rattle.b1_inv.specs.Sound.{IsSound}
 use Rattle.b1_inv_record.specs.Destructions.{own_ref, doomed_key}
 use Rattle.b1_inv_record.specs.Right.{IsRight}
 use Rattle.b1_inv_sends.proofs.StagesKept.{opening_queue}
-use Rattle.b1_inv_destroys.specs.Numbers.{DestroysOwn}
+use Rattle.b1_inv_record.specs.Numbers.{DestroysOwn}
 use Rattle.b1_inv_destroys.specs.OwnNotices.{OwnKeyed}
 use Rattle.b1_inv_destroys.proofs.Keyed.{AllKeyed, keyed_kept}
 

@@ -21,7 +21,7 @@ use Rattle.b1_inv_tools.proofs.Leaves.{peer_cases}
 use Rattle.b1_inv_notices.proofs.Nodes.{NodesKept, nodes_kept, doomed_length, undoomed_state, doomed_state}
 use Rattle.b1_inv_notices.proofs.Sets.{in_or_not}
 use Rattle.b1_inv_notices.proofs.Turns.{parts, going, going_doing, going_action, get_there}
-use Rattle.b1_inv_destroys.specs.Numbers.{DestroysOwn}
+use Rattle.b1_inv_record.specs.Numbers.{DestroysOwn}
 use Rattle.b1_inv_destroys.proofs.Stays.{doomed_stays}
 
 -- the event that may give a destruction its stamp

@@ -19,7 +19,7 @@ use Rattle.b1_step.specs.Rights.{Has}
 use Rattle.b1_step.proofs.Lists.{has_at}
 use Rattle.b1_ledger.proofs.Sequences.{slice_get-append_lt}
 use Rattle.b1_inv_record.specs.Epochs.{is_ref, doom_from, doom_key}
-use Rattle.b1_inv_destroys.specs.Numbers.{names_own, is_destroy}
+use Rattle.b1_inv_record.specs.Numbers.{names_own, is_destroy}
 
 -- ---- what a destruction names by own numbers is by no table
 

@@ -31,7 +31,7 @@ use Rattle.b1_inv_tools.proofs.Leaves.{peer_cases}
 use Rattle.b1_inv_tools.proofs.Openings.{opening_each}
 use Rattle.b1_inv_sends.proofs.StagesKept.{opening_queue}
 use Rattle.b1_inv_notices.proofs.Turns.{opened, parts, going, going_doing, going_action, get_there}
-use Rattle.b1_inv_destroys.specs.Numbers.{DestroysOwn}
+use Rattle.b1_inv_record.specs.Numbers.{DestroysOwn}
 use Rattle.b1_inv_destroys.proofs.Stays.{doomed_stays}
 use Rattle.b1_inv_destroys.proofs.Keyed.{AllKeyed}
 use Rattle.b1_inv_destroys.proofs.Dead.{AllOk, EntryKnown, Spares, event_dead, ok_made}

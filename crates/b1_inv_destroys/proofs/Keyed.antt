@@ -27,7 +27,7 @@ use Rattle.b1_inv_tools.proofs.Comes.{Comes, queue_comes}
 use Rattle.b1_inv_tools.proofs.Leaves.{peer_cases}
 use Rattle.b1_inv_notices.proofs.Turns.{parts, going, going_doing, going_action, ActionStamp, action_stamp}
 use Rattle.b1_inv_notices.proofs.StampsLaw.{fixed_before}
-use Rattle.b1_inv_destroys.specs.Numbers.{DestroysOwn}
+use Rattle.b1_inv_record.specs.Numbers.{DestroysOwn}
 use Rattle.b1_inv_destroys.proofs.Stays.{doomed_stays}
 use Rattle.b1_model.specs.MachineTables.{is_stage}
 

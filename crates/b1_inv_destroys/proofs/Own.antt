@@ -45,7 +45,7 @@ use Rattle.b1_inv.specs.Words.{IsDriver}
 use Rattle.b1_inv_tools.proofs.Leaves.{driver_cases}
 use Rattle.b1_inv_tools.proofs.Openings.{opening_idle}
 use Rattle.b1_inv_notices.proofs.Turns.{doing_in, opened, parts, going, going_doing, going_action, going_answer}
-use Rattle.b1_inv_destroys.specs.Numbers.{names_own, is_destroy, may_destroy, DestroysOwn}
+use Rattle.b1_inv_record.specs.Numbers.{names_own, is_destroy, may_destroy, DestroysOwn}
 use Rattle.b1_inv_destroys.proofs.Dooms.{AllOwn}
 
 -- ---- turns, where N is what a destruction needs

@@ -14,7 +14,7 @@ use Rattle.b1_model.specs.MachineStep.{Step, record_of_state}
 use Rattle.b1_ledger.proofs.Sequences.{slice_get-append}
 use Rattle.b1_inv.specs.Sound.{IsSound}
 use Rattle.b1_inv_record.specs.Epochs.{WasReceivedIn}
-use Rattle.b1_inv_destroys.specs.Numbers.{DestroysOwn}
+use Rattle.b1_inv_record.specs.Numbers.{DestroysOwn}
 use Rattle.b1_inv_destroys.proofs.Recorded.{recorded, as_many, record_grows}
 use Rattle.b1_inv_destroys.proofs.Dooms.{AllOwn, dooms_grow}
 use Rattle.b1_inv_destroys.proofs.Stays.{recorded_own}

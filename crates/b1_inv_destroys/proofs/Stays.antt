@@ -12,7 +12,7 @@ use Rattle.b1_model.specs.MachineTook.{answer_of, fixed_call, open_by}
 use Rattle.b1_model.specs.MachineStep.{Step, record_of_state}
 use Rattle.b1_inv.specs.Sound.{IsSound}
 use Rattle.b1_inv_record.specs.Destructions.{doomed_key}
-use Rattle.b1_inv_destroys.specs.Numbers.{names_own, is_destroy, may_destroy, DestroysOwn}
+use Rattle.b1_inv_record.specs.Numbers.{names_own, is_destroy, may_destroy, DestroysOwn}
 use Rattle.b1_inv_destroys.proofs.Recorded.{calls_by, recorded, as_many, record_grows}
 use Rattle.b1_inv_destroys.proofs.Dooms.{AllOwn, doom_key_stays}
 use Rattle.b1_inv_destroys.proofs.Own.{answer_may, call_own, append_own}

@@ -7,7 +7,7 @@ ghost use Rattle.b1_model.specs.MachineStep.{Step, opening_state};
 ghost use Rattle.b1_inv.specs.Sound.{IsSound};
 ghost use Rattle.b1_inv_record.specs.Destructions.{ForeignNoticeRight};
 ghost use Rattle.b1_inv_record.specs.Right.{IsRight};
-ghost use Rattle.b1_inv_destroys.specs.Numbers.{DestroysOwn};
+ghost use Rattle.b1_inv_record.specs.Numbers.{DestroysOwn};
 ghost use Rattle.b1_inv_destroys.specs.OwnNotices.{OwnKeyed, OwnOnce, OwnUntaken, TakenDestroyed, OwnPresent, OwnStaged, DoomedPresent};
 
 /// Every NODES_DESTROY that destroys names own numbers alone, and every bus begins so.

@@ -37,7 +37,7 @@ use Rattle.b1_inv_tools.proofs.Leaves.{driver_cases, peer_cases}
 use Rattle.b1_inv_tools.proofs.Openings.{opening_idle}
 use Rattle.b1_inv_notices.proofs.Nodes.{doomed_state}
 use Rattle.b1_inv_notices.proofs.Turns.{doing_in, opened, answered, OnTurn, took_leaves, parts, going, going_doing, going_action, going_answer}
-use Rattle.b1_inv_names.specs.Doomed.{NoneLive, FlushesDoomAll, is_ending}
+use Rattle.b1_inv_record.specs.Dooming.{NoneLive, FlushesDoomAll, is_ending}
 use Rattle.b1_inv_names.proofs.Begun.{away_kind}
 
 -- ---- nodes

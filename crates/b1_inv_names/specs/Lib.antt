@@ -1,3 +1,2 @@
-pub mod Doomed
 pub mod Gap
 pub mod Destroyed

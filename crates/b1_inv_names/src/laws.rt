@@ -6,7 +6,7 @@ ghost use Rattle.b1_model.specs.MachineParts.{State};
 ghost use Rattle.b1_model.specs.MachineStep.{Step, opening_state};
 ghost use Rattle.b1_inv.specs.Sound.{IsSound};
 ghost use Rattle.b1_inv_names.specs.Destroyed.{DestroyedStay};
-ghost use Rattle.b1_inv_names.specs.Doomed.{FlushesDoomAll};
+ghost use Rattle.b1_inv_record.specs.Dooming.{FlushesDoomAll};
 ghost use Rattle.b1_inv_names.specs.Gap.{GapIsEmpty};
 ghost use Rattle.b1_inv_record.specs.Names.{BegunNames, EpochCounted, MadeNumbers, ShutIsEmpty};
 ghost use Rattle.b1_inv_record.specs.Right.{IsRight};

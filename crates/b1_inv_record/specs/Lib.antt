@@ -3,6 +3,8 @@ pub mod Parts
 pub mod Clocks
 pub mod Names
 pub mod Entries
+pub mod Dooming
+pub mod Numbers
 pub mod Destructions
 pub mod Holders
 pub mod Right

@@ -1,10 +1,14 @@
 -- All that ties a reached state to its record, and to the parts of its peers by themselves.
 use Rattle.b1_model.specs.declared.naming.Opening.{Opening}
+use Rattle.b1_model.specs.Legal.{Legal}
 use Rattle.b1_model.specs.MachineParts.{State}
+use Rattle.b1_model.specs.MachineStep.{record_of_state}
 use Rattle.b1_inv_record.specs.Parts.{KeysAscend, SerialsMade, PoolRight, RecordsNeeded, ReleaseNoticesRight, MarksRight}
 use Rattle.b1_inv_record.specs.Clocks.{CommittedBelowClock, ListedBelowClock, Synced, StampsAboveCollected, StagedKeysRight, OwedRight}
 use Rattle.b1_inv_record.specs.Names.{MadeNumbers, TableIsLines, BegunNames, OldNodesDestroyed, ShutIsEmpty, EpochCounted}
 use Rattle.b1_inv_record.specs.Entries.{PendingIsStaged, QueuedIsPresent, CommittedHasCall, EntryIsSomewhere, GoneBelowQueue, PendingAboveTaken}
+use Rattle.b1_inv_record.specs.Dooming.{FlushesDoomAll, DoomsItsNodes}
+use Rattle.b1_inv_record.specs.Numbers.{DestroysOwn}
 use Rattle.b1_inv_record.specs.Destructions.{DoomKeysRight, DyingIsDoomed, OwnNoticeRight, ForeignNoticeRight, TakenHasReceipt}
 use Rattle.b1_inv_record.specs.Holders.{HolderCovered, SeenTravels, SeenCollected, VoidRight}
 
@@ -46,6 +50,9 @@ pub record EntriesRight (o : Opening) (s : State) : Type 0 where
 
 -- destructions and their notices
 pub record DestructionsRight (o : Opening) (s : State) : Type 0 where
+  pub numbers : DestroysOwn s
+  pub all : FlushesDoomAll s
+  pub doomed : DoomsItsNodes s
   pub keys : DoomKeysRight o s
   pub dying : DyingIsDoomed o s
   pub own : OwnNoticeRight o s
@@ -59,7 +66,7 @@ pub record HoldersRight (o : Opening) (s : State) : Type 0 where
   pub collected : SeenCollected o s
   pub void : VoidRight s
 
--- a reached state, as its record and its parts see it
+-- a reached state, as its record and its parts see it: the record is legal
 pub record IsRight (o : Opening) (s : State) : Type 0 where
   pub parts : PartsRight s
   pub clocks : ClocksCover s
@@ -67,3 +74,4 @@ pub record IsRight (o : Opening) (s : State) : Type 0 where
   pub entries : EntriesRight o s
   pub destructions : DestructionsRight o s
   pub holders : HoldersRight o s
+  pub legal : Legal o (record_of_state s)
