@@ -54,7 +54,12 @@ impl<Q: QueueKind, P: PoolKind> Core<Q, P> {
     ) -> Result<Core<Q, P>, AllocError>
         requires opening { IsOpening opening.now }
         requires lists { length commands ≡ length opening.now.peers }
-        ensures { IfOk result (λ c. c ≡ record { opening = opening.now; commands = commands; state = opening_state opening.now }) }
+        ensures { IfOk result (λ c. c
+            ≡ record {
+              opening = opening.now;
+              commands = commands;
+              state = opening_state opening.now;
+            }) }
     {
         let peers = make_peers(alloc, opening)?;
         let drivers = make_drivers(alloc, opening)?;

@@ -16,7 +16,8 @@ pub fn records<Q: QueueKind, P: PoolKind>(
     requires as_many { length drivers.items ≡ length peers.items }
     requires empty { room.items ≡ [] }
     requires room { length peers.items ≤ vec_capacity room }
-    ensures { result.items ≡ peer_records (map (λ x. x.part) peers.items) (map (λ d. d.part) drivers.items) }
+    ensures { result.items ≡ peer_records (map (λ x. x.part) peers.items) (map (λ d.
+        d.part) drivers.items) }
 {
     while !peers.is_empty() {
         let peer = peers.remove(0);

@@ -30,7 +30,8 @@ pub fn make_peers<Q: QueueKind, P: PoolKind>(
     opening: &Opening,
 ) -> Result<Vec<PeerState<Q, P>>, AllocError>
     requires { IsOpening opening.now }
-    ensures parts { IfOk result (λ v. map (λ x. x.part) v.items ≡ (opening_state opening.now).peers) }
+    ensures parts { IfOk result (λ v. map (λ x. x.part) v.items
+        ≡ (opening_state opening.now).peers) }
     ensures users { IfOk result (λ v. All (HasUsers opening.now) (map (λ x. x.users) v.items)) }
 {
     every_reached_state_is_sound();
@@ -47,7 +48,8 @@ fn peers_before<Q: QueueKind, P: PoolKind>(
     opening: &Opening,
 ) -> Result<Vec<PeerState<Q, P>>, AllocError>
     requires { IsOpening opening.now }
-    ensures parts { IfOk result (λ v. map (λ x. x.part) v.items ≡ parts_before opening.now 0 opening.now.peers) }
+    ensures parts { IfOk result (λ v. map (λ x. x.part) v.items
+        ≡ parts_before opening.now 0 opening.now.peers) }
     ensures users { IfOk result (λ v. All (HasUsers opening.now) (map (λ x. x.users) v.items)) }
 {
     let count = opening.peers.len();
@@ -64,8 +66,10 @@ fn give<Q: QueueKind, P: PoolKind>(
     wire: &Wire,
 ) -> Result<(), AllocError>
     requires { CanGive (map (λ x. x.part) peers.old.items) wire.now }
-    ensures parts { OnOk result (map (λ x. x.part) peers.new.items ≡ wired (map (λ x. x.part) peers.old.items) wire.now) }
-    ensures users { OnOk result (map (λ x. x.users) peers.new.items ≡ map (λ x. x.users) peers.old.items) }
+    ensures parts { OnOk result (map (λ x. x.part) peers.new.items
+        ≡ wired (map (λ x. x.part) peers.old.items) wire.now) }
+    ensures users { OnOk result (map (λ x. x.users) peers.new.items
+        ≡ map (λ x. x.users) peers.old.items) }
 {
     match peers[wire.from as usize].wire_name(wire.number)? {
         Some(node) => pass(peers, node, wire.to),
@@ -80,8 +84,11 @@ fn pass<Q: QueueKind, P: PoolKind>(
     to: u32,
 ) -> Result<(), AllocError>
     requires { CanPass (map (λ x. x.part) peers.old.items) node to }
-    ensures parts { OnOk result (map (λ x. x.part) peers.new.items ≡ with_part to (with_wire_held node) (with_part node.owner (wire_counted node to) (map (λ x. x.part) peers.old.items))) }
-    ensures users { OnOk result (map (λ x. x.users) peers.new.items ≡ map (λ x. x.users) peers.old.items) }
+    ensures parts { OnOk result (map (λ x. x.part) peers.new.items
+        ≡ with_part to (with_wire_held node) (with_part node.owner (wire_counted node to) (map (λ x.
+        x.part) peers.old.items))) }
+    ensures users { OnOk result (map (λ x. x.users) peers.new.items
+        ≡ map (λ x. x.users) peers.old.items) }
 {
     peers[node.owner as usize].wire_count(node.serial, to);
     peers[to as usize].wire_held(node)
@@ -91,7 +98,8 @@ fn pass<Q: QueueKind, P: PoolKind>(
 /// memory.
 pub fn make_drivers(alloc: Global, opening: &Opening) -> Result<Vec<DriverState>, AllocError>
     requires { IsOpening opening.now }
-    ensures parts { IfOk result (λ v. map (λ d. d.part) v.items ≡ idle_drivers 0 opening.now.peers) }
+    ensures parts { IfOk result (λ v. map (λ d. d.part) v.items
+        ≡ idle_drivers 0 opening.now.peers) }
     ensures stock { IfOk result (λ v. AreNew (opening_state opening.now).peers v.items) }
 {
     every_reached_state_is_sound();

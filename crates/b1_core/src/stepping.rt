@@ -96,7 +96,8 @@ pub fn turn<Q: QueueKind, P: PoolKind>(
     requires stocked { AreStocked opening.now peers.old.items drivers.old.items }
     requires peer { p < length opening.now.peers }
     requires begins { Begins command (state_of peers.old.items drivers.old.items) p }
-    ensures step { IfOk result (λ turn. IsStep opening.now (state_of peers.old.items drivers.old.items) p command turn (state_of peers.new.items drivers.new.items)) }
+    ensures step { IfOk result (λ turn.
+        IsStep opening.now (state_of peers.old.items drivers.old.items) p command turn (state_of peers.new.items drivers.new.items)) }
     ensures stocked { AreStocked opening.now peers.new.items drivers.new.items }
     ensures peers { OnErr result (peers.new.items ≡ peers.old.items) }
     ensures drivers { OnErr result (drivers.new.items ≡ drivers.old.items) }
@@ -154,7 +155,8 @@ fn place_of(p: u32, action: Action) -> u32
 
 // Where a driver stands after an event that began behind so many calls.
 fn turn_after(calls: usize, driver: &DriverState) -> Turn
-    requires { driver.now.part.doing ≡ None → length driver.now.part.calls ≡ calls → driver.now.part.attempted ≢ None }
+    requires { driver.now.part.doing ≡ None → length driver.now.part.calls ≡ calls
+        → driver.now.part.attempted ≢ None }
     ensures { StandsBehind calls result driver.now.part }
 {
     if driver.command().is_some() {

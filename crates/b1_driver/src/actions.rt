@@ -32,7 +32,8 @@ fn owner_of(sending: &Sending, place: u32) -> u32
 // The event of a SEND.
 fn send_action(stage: &SendStage) -> Action
     requires { IsSend stage.now }
-    ensures { (me : ℕ) (shut : Bool) (command : Commands) → result ≡ phase_action me shut command (send_phase stage.now) }
+    ensures { (me : ℕ) (shut : Bool) (command : Commands)
+        → result ≡ phase_action me shut command (send_phase stage.now) }
 {
     match stage {
         SendStage::Staging { begun, places, .. } => Action::Stage {
@@ -88,7 +89,8 @@ fn peer_at(peers: &PeerSet, place: usize, me: u32) -> u32
 
 // The event of a destruction.
 fn destroy_action(me: u32, stage: &DestroyStage) -> Action
-    ensures { (shut : Bool) (command : Commands) (doomed : List ℕ) → result ≡ phase_action me shut command (destroy_phase doomed stage.now) }
+    ensures { (shut : Bool) (command : Commands) (doomed : List ℕ)
+        → result ≡ phase_action me shut command (destroy_phase doomed stage.now) }
 {
     match stage {
         DestroyStage::Visiting { left, .. } => Action::Visit {
@@ -121,7 +123,8 @@ fn destroy_action(me: u32, stage: &DestroyStage) -> Action
 /// The event of a stage, where no drop is owed.
 pub fn stage_action(me: u32, shut: bool, command: &Command, stage: &Stage) -> Action
     requires { IsStage stage.now }
-    ensures { (doomed : List ℕ) → result ≡ phase_action me shut command.now (phase_of doomed stage.now) }
+    ensures { (doomed : List ℕ) → result
+        ≡ phase_action me shut command.now (phase_of doomed stage.now) }
 {
     match stage {
         Stage::Starting if shut => Action::Local,

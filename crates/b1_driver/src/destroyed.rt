@@ -18,7 +18,9 @@ pub fn begin_destroy_answered(
     doomed: &mut Vec<u32>,
 ) -> After
     requires { is_starting stage ≡ true }
-    ensures turn { (me : ℕ) (command : Commands) → turn_of doomed.new.items result ≡ turn me command (phase_of doomed.old.items stage) (out.BeginDestroy got list.items) }
+    ensures turn { (me : ℕ) (command : Commands)
+        → turn_of doomed.new.items result
+        ≡ turn me command (phase_of doomed.old.items stage) (out.BeginDestroy got list.items) }
     ensures holds { IsAfter result }
     ensures handles { handles_after result ≡ 0 }
     ensures room { vec_capacity doomed.new ≡ vec_capacity list }
@@ -119,7 +121,8 @@ pub fn sync_answered(stage: Stage) -> After
 /// A destruction's notices were committed at a peer.
 pub fn commit_notices_answered(command: &Command, stage: Stage) -> After
     requires { IsStage stage }
-    ensures turn { (me : ℕ) (doomed : List ℕ) → turn_of doomed result ≡ turn me command.now (phase_of doomed stage) out.CommitNotices }
+    ensures turn { (me : ℕ) (doomed : List ℕ)
+        → turn_of doomed result ≡ turn me command.now (phase_of doomed stage) out.CommitNotices }
     ensures holds { IsAfter result }
     ensures handles { handles_after result ≤ handles_in stage }
 {

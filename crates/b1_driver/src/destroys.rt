@@ -8,7 +8,8 @@ use b1_model::{Answer, Command, MOST_PEERS, PeerSet, Visited};
 
 /// A destruction visits who is left, or is at its stamp.
 pub fn visiting(visits: Visits, left: PeerSet) -> DestroyStage
-    ensures phase { (doomed : List ℕ) → destroy_phase doomed result ≡ visiting (with_doomed doomed visits) left }
+    ensures phase { (doomed : List ℕ)
+        → destroy_phase doomed result ≡ visiting (with_doomed doomed visits) left }
     ensures holds { IsDestruction result }
 {
     if left.is_empty() {
@@ -20,7 +21,8 @@ pub fn visiting(visits: Visits, left: PeerSet) -> DestroyStage
 /// A visit's clock is collected, and its peer joins the staged ones where a notice was staged.
 pub fn with_visit(visits: Visits, peer: u32, got: Visited) -> Visits
     requires { peer < MOST_PEERS }
-    ensures { (doomed : List ℕ) → with_doomed doomed result ≡ with_visit (with_doomed doomed visits) peer got }
+    ensures { (doomed : List ℕ) → with_doomed doomed result
+        ≡ with_visit (with_doomed doomed visits) peer got }
 {
     let mut visits = visits;
     visits.collected = visits.collected.max(got.clock);
@@ -40,7 +42,8 @@ fn join(staged: &mut PeerSet, peer: u32, joins: bool)
 
 /// A destruction syncs from a place of its peers on, then commits.
 pub fn syncing_notices(visits: Visits, stamp: u64, place: usize) -> DestroyStage
-    ensures phase { (doomed : List ℕ) → destroy_phase doomed result ≡ syncing_notices (with_doomed doomed visits) stamp place }
+    ensures phase { (doomed : List ℕ)
+        → destroy_phase doomed result ≡ syncing_notices (with_doomed doomed visits) stamp place }
     ensures holds { IsDestruction result }
 {
     if place < visits.staged.len() {
@@ -62,7 +65,8 @@ fn is_flushing(command: &Command) -> bool
 
 /// A destruction commits from a place of its peers on; then NODES_DESTROY is done, and the others flush.
 pub fn committing_notices(command: &Command, visits: Visits, stamp: u64, place: usize) -> After
-    ensures turn { (doomed : List ℕ) → turn_of doomed result ≡ committing_notices command.now (with_doomed doomed visits) stamp place }
+    ensures turn { (doomed : List ℕ)
+        → turn_of doomed result ≡ committing_notices command.now (with_doomed doomed visits) stamp place }
     ensures holds { IsAfter result }
     ensures handles { handles_after result ≡ 0 }
 {

@@ -142,7 +142,14 @@ impl DriverState {
     pub fn begin(&mut self, command: Command)
         requires rest { self.old.part.doing ≡ None }
         requires spare { 1 ≤ self.old.spare }
-        ensures { self.new ≡ record self.old { part = record self.old.part { doing = Some (record { command = command; phase = Starting }) } } }
+        ensures { self.new ≡ record self.old {
+          part = record self.old.part {
+            doing = Some (record {
+              command = command;
+              phase = Starting;
+            });
+          };
+        } }
     {
         self.doing = Some(Open {
             command,
@@ -155,8 +162,10 @@ impl DriverState {
     pub fn room(&mut self) -> Result<(), AllocError>
         ensures part { self.new.part ≡ self.old.part }
         ensures spare { self.new.spare ≡ self.old.spare }
-        ensures room { OnOk result (HasRoom self.new.room (length (send_in self.old.part.doing).to) (length (send_in self.old.part.doing).with)) }
-        ensures doomed { OnOk result (self.new.doomed ≡ self.old.doomed + length (send_in self.old.part.doing).with) }
+        ensures room { OnOk result (HasRoom self.new.room (length (send_in self.old.part.doing).to)
+            (length (send_in self.old.part.doing).with)) }
+        ensures doomed { OnOk result (self.new.doomed
+            ≡ self.old.doomed + length (send_in self.old.part.doing).with) }
         ensures here { OnOk result (self.new.doomed ≤ self.new.here) }
         ensures kept { OnErr result (self.new.doomed ≡ self.old.doomed) }
         ensures same { self.old.here ≤ self.new.here }
@@ -260,7 +269,8 @@ impl DriverState {
         requires kind { fits (next_action self.old.part) outcome ≡ true }
         requires room { HasRoomAt self.old.room outcome }
         ensures part { self.new.part ≡ took self.old.part outcome }
-        ensures calls { self.new.spare + length self.new.part.calls ≡ self.old.spare + length self.old.part.calls }
+        ensures calls { self.new.spare + length self.new.part.calls
+            ≡ self.old.spare + length self.old.part.calls }
         ensures doomed { self.new.doomed ≡ self.old.doomed }
         ensures here { hands_back outcome ≡ false → self.new.here ≡ self.old.here }
     {
@@ -286,7 +296,8 @@ impl DriverState {
     pub fn took_begin_destroy(&mut self, got: Result<PeerSet, Reason>, doomed: Vec<u32>)
         requires { next_action self.old.part ≡ BeginDestroy }
         ensures part { self.new.part ≡ took self.old.part (out.BeginDestroy got doomed.items) }
-        ensures calls { self.new.spare + length self.new.part.calls ≡ self.old.spare + length self.old.part.calls }
+        ensures calls { self.new.spare + length self.new.part.calls
+            ≡ self.old.spare + length self.old.part.calls }
         ensures doomed { self.new.doomed ≡ self.old.doomed }
         ensures here { self.new.here ≡ vec_capacity doomed }
     {

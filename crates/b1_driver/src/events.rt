@@ -39,8 +39,10 @@ pub fn answered(
     requires handles { handles_in stage ≤ owing.old.room }
     requires room { HasRoomAt room.old outcome }
     requires drops { room.old.handles ≤ owing.old.room }
-    ensures turn { turn_of doomed.new.items result ≡ turn me command.now (phase_of doomed.old.items stage) outcome }
-    ensures owed { owing.new.drops ≡ owed_after me (phase_of doomed.old.items stage) owing.old.drops outcome }
+    ensures turn { turn_of doomed.new.items result
+        ≡ turn me command.now (phase_of doomed.old.items stage) outcome }
+    ensures owed { owing.new.drops
+        ≡ owed_after me (phase_of doomed.old.items stage) owing.old.drops outcome }
     ensures holds { IsAfter result }
     ensures handles { handles_after result ≤ owing.new.room }
     ensures kept { owing.new.room ≡ owing.old.room }
@@ -79,7 +81,8 @@ pub fn answered(
 // The references of an item are owed, if there is one.
 fn owe_item(me: u32, got: Option<Dead>, owing: &mut Owing)
     requires { owing.old.drops ≡ [] }
-    ensures owed { (p : Phases) (dead : Bool) → owing.new.drops ≡ owed_after me p owing.old.drops (out.Reap got dead) }
+    ensures owed { (p : Phases) (dead : Bool)
+        → owing.new.drops ≡ owed_after me p owing.old.drops (out.Reap got dead) }
     ensures kept { owing.new.room ≡ owing.old.room }
 {
     match got {

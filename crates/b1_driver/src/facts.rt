@@ -34,8 +34,10 @@ impl Facts {
     pub fn note(&mut self, command: &Command, outcome: &Outcome)
         ensures shut { self.new.shut ≡ shut_after command.now self.old.shut outcome.now }
         ensures told { self.new.told ≡ told_after self.old.told outcome.now }
-        ensures attempted { self.new.attempted ≡ attempted_after (attempt_of command.now outcome.now) self.old.attempted }
-        ensures attempts { self.new.attempts ≡ attempts_after (attempt_of command.now outcome.now) self.old.attempts }
+        ensures attempted { self.new.attempted
+            ≡ attempted_after (attempt_of command.now outcome.now) self.old.attempted }
+        ensures attempts { self.new.attempts
+            ≡ attempts_after (attempt_of command.now outcome.now) self.old.attempts }
     {
         self.shut = shut_after(command, self.shut, outcome);
         self.told = told_after(self.told, outcome);

@@ -109,7 +109,8 @@ impl Owing {
     pub fn owe_place(&mut self, holder: u32, stamp: u64, sending: &Sending, place: u32)
         requires nothing { self.old.drops ≡ [] }
         requires room { length sending.now.begun.with ≤ self.old.room }
-        ensures drops { self.new.drops ≡ drops_of holder stamp (place_references sending.now place) }
+        ensures drops { self.new.drops
+            ≡ drops_of holder stamp (place_references sending.now place) }
         ensures room { self.new.room ≡ self.old.room }
     {
         self.holder = holder;
@@ -146,7 +147,8 @@ fn drop_first(alloc: Global, item: &mut Drops)
 // Puts the attached nodes behind the others, each once.
 fn add_references(references: &mut Vec<(NodeRef, u64)>, nodes: &[NodeRef], slots: &[Slot])
     requires { vec_len references.old + length nodes.now ≤ vec_capacity references.old }
-    ensures items { references.new.items ≡ references.old.items ++ filter_map reference_of (zip nodes.now slots.now) }
+    ensures items { references.new.items ≡ references.old.items
+        ++ filter_map reference_of (zip nodes.now slots.now) }
     ensures capacity { vec_capacity references.new ≡ vec_capacity references.old }
 {
     for (index, node) in nodes.iter().enumerate() {
@@ -167,7 +169,8 @@ fn slot_at(slots: &[Slot], index: usize) -> Option<Slot>
 // Puts a node behind the others, once, if it is attached.
 fn add_reference(references: &mut Vec<(NodeRef, u64)>, node: NodeRef, slot: Slot)
     requires { vec_len references.old < vec_capacity references.old }
-    ensures items { references.new.items ≡ references.old.items ++ option_to_list (reference_of (node, slot)) }
+    ensures items { references.new.items ≡ references.old.items
+        ++ option_to_list (reference_of (node, slot)) }
     ensures len { vec_len references.new ≤ vec_len references.old + 1 }
     ensures capacity { vec_capacity references.new ≡ vec_capacity references.old }
 {

@@ -58,7 +58,8 @@ impl SendRoom {
         ensures empty { result.0.items ≡ [] }
         ensures places { vec_capacity result.0 ≡ self.old.places }
         ensures handles { self.new.handles ≡ self.old.handles }
-        ensures slots { result.1 ≡ replicate self.old.lists (replicate self.old.handles Unattached) }
+        ensures slots { result.1
+            ≡ replicate self.old.lists (replicate self.old.handles Unattached) }
     {
         let places = std::mem::replace(&mut self.places, Vec::new(alloc));
         let slots = std::mem::replace(&mut self.slots, Vec::new(alloc));

@@ -19,8 +19,10 @@ pub fn open_command(doing: &Option<Open>) -> Option<&Command>
 
 /// To how many destinations the open SEND goes, and how many handles it carries.
 pub fn sizes(doing: &Option<Open>) -> (usize, usize)
-    ensures destinations { (doomed : List ℕ) → result.0 ≡ length (send_in (doing_of doomed doing.now)).to }
-    ensures handles { (doomed : List ℕ) → result.1 ≡ length (send_in (doing_of doomed doing.now)).with }
+    ensures destinations { (doomed : List ℕ)
+        → result.0 ≡ length (send_in (doing_of doomed doing.now)).to }
+    ensures handles { (doomed : List ℕ)
+        → result.1 ≡ length (send_in (doing_of doomed doing.now)).with }
 {
     match doing {
         Some(one) => sizes_of(&one.command),
@@ -55,7 +57,8 @@ fn send_begun(stage: &SendStage) -> &Begun
 /// The nodes of the open SEND, or none.
 pub fn open_begun<'a>(doing: &'a Option<Open>, nothing: &'a Begun) -> &'a Begun
     requires { nothing.now ≡ no_begun }
-    ensures { (doomed : List ℕ) → result.now ≡ by_phase no_begun begun_of (doing_of doomed doing.now) }
+    ensures { (doomed : List ℕ) → result.now
+        ≡ by_phase no_begun begun_of (doing_of doomed doing.now) }
 {
     match doing {
         Some(
@@ -93,7 +96,8 @@ fn slots_at(slots: &SlotLists, place: u32) -> &[Slot]
 
 /// The slots of the open SEND at a place, or none.
 pub fn open_slots(doing: &Option<Open>, place: u32) -> &[Slot]
-    ensures { (doomed : List ℕ) → result.now ≡ by_phase [] (λ phase. slots_of_place phase place) (doing_of doomed doing.now) }
+    ensures { (doomed : List ℕ) → result.now
+        ≡ by_phase [] (λ phase. slots_of_place phase place) (doing_of doomed doing.now) }
 {
     match doing {
         Some(

@@ -147,7 +147,8 @@ pub fn place_done(
 /// A staged message was taken back.
 pub fn unstage_done(begun: Begun, places: Places, refused: Refused, place: u32) -> SendAfter
     requires { length places < 2 ^ 32 }
-    ensures turn { send_turn result ≡ unstaging begun places refused (accepted_from (place + 1) places) }
+    ensures turn { send_turn result
+        ≡ unstaging begun places refused (accepted_from (place + 1) places) }
     ensures holds { IsSendAfter result }
     ensures handles { send_after_handles result ≡ 0 }
 {
@@ -206,7 +207,8 @@ pub fn attach_done(
 ) -> SendStage
     requires few { length sending.places < 2 ^ 32 }
     requires handle { handle < length sending.begun.with }
-    ensures phase { send_phase result ≡ attaching (with_slot sending place handle got) place (handle + 1) }
+    ensures phase { send_phase result
+        ≡ attaching (with_slot sending place handle got) place (handle + 1) }
     ensures holds { IsSend result }
     ensures handles { send_handles result ≤ length sending.begun.with }
 {

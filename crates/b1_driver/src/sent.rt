@@ -58,7 +58,8 @@ pub fn begin_answered(
 /// A destination answered.
 pub fn stage_answered(command: &Command, stage: Stage, got: Result<u64, Reason>) -> After
     requires { IsStage stage }
-    ensures turn { (me : ℕ) (doomed : List ℕ) → turn_of doomed result ≡ turn me command.now (phase_of doomed stage) (out.Stage got) }
+    ensures turn { (me : ℕ) (doomed : List ℕ)
+        → turn_of doomed result ≡ turn me command.now (phase_of doomed stage) (out.Stage got) }
     ensures holds { IsAfter result }
     ensures handles { handles_after result ≤ handles_in stage }
 {
@@ -137,7 +138,8 @@ pub fn commit_answered(stage: Stage, found: bool, owing: &mut Owing) -> After
     ensures turn { Turns stage (out.Commit found) result }
     ensures holds { IsAfter result }
     ensures handles { handles_after result ≤ handles_in stage }
-    ensures owed { (me : ℕ) (doomed : List ℕ) → owing.new.drops ≡ owed_after me (phase_of doomed stage) owing.old.drops (out.Commit found) }
+    ensures owed { (me : ℕ) (doomed : List ℕ)
+        → owing.new.drops ≡ owed_after me (phase_of doomed stage) owing.old.drops (out.Commit found) }
     ensures kept { owing.new.room ≡ owing.old.room }
 {
     match stage {

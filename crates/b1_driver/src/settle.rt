@@ -14,7 +14,8 @@ use b1_model::{Answer, Call, Command, Reason, Refused, Sent};
 /// A command stays in its stage, or ends there where nothing is left of it.
 pub fn settle(stage: Stage, owing: &Owing, told: bool) -> After
     requires { IsStage stage }
-    ensures turn { (command : Commands) (doomed : List ℕ) → turn_of doomed result ≡ settled owing.now.drops told command (phase_of doomed stage) }
+    ensures turn { (command : Commands) (doomed : List ℕ)
+        → turn_of doomed result ≡ settled owing.now.drops told command (phase_of doomed stage) }
     ensures holds { IsAfter result }
     ensures handles { handles_after result ≤ handles_in stage }
     ensures owes { is_dropping_after result ≡ true → owing.now.drops ≢ [] }
@@ -95,7 +96,8 @@ pub fn add_call(calls: &mut Vec<Call>, command: Command, answer: Answer)
 /// The same, after an event.
 pub fn settle_after(after: After, owing: &Owing, told: bool) -> After
     requires { IsAfter after }
-    ensures turn { (command : Commands) (doomed : List ℕ) → turn_of doomed result ≡ settled_turn owing.now.drops told command (turn_of doomed after) }
+    ensures turn { (command : Commands) (doomed : List ℕ)
+        → turn_of doomed result ≡ settled_turn owing.now.drops told command (turn_of doomed after) }
     ensures holds { IsAfter result }
     ensures handles { handles_after result ≤ handles_after after }
     ensures owes { is_dropping_after result ≡ true → owing.now.drops ≢ [] }
@@ -156,7 +158,8 @@ fn fixed_answer(command: &Command, stage: Stage) -> Option<Answer>
 /// Puts the open command behind the calls, if its answer is fixed.
 fn add_open(calls: &mut Vec<Call>, last: Open)
     requires { vec_len calls.old < vec_capacity calls.old }
-    ensures { (doomed : List ℕ) → calls.new.items ≡ calls.old.items ++ open_by (doing_of doomed (Some last)) }
+    ensures { (doomed : List ℕ) → calls.new.items ≡ calls.old.items
+        ++ open_by (doing_of doomed (Some last)) }
 {
     let Open { command, stage } = last;
     match fixed_answer(&command, stage) {
@@ -188,7 +191,8 @@ pub fn go_on(doing: &mut Option<Open>, calls: &mut Vec<Call>, command: Command, 
     ensures len { vec_len calls.new ≤ vec_capacity calls.new }
     ensures holds { IsOpen (vec_len calls.new) (vec_capacity calls.new) doing.new }
     ensures handles { open_handles doing.new ≡ handles_after after }
-    ensures owes { (owed : List OwedDrops) → (is_dropping_after after ≡ true → owed ≢ []) → OwesDrop owed doing.new }
+    ensures owes { (owed : List OwedDrops) → (is_dropping_after after ≡ true → owed ≢ [])
+        → OwesDrop owed doing.new }
 {
     match after {
         After::Goes(stage) => *doing = Some(Open { command, stage }),

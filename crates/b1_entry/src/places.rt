@@ -11,7 +11,8 @@ fn open_place(slots: &mut Vec<Option<Entry>>, vacant: &mut Vec<usize>)
     requires slots_fit { vec_len slots.old < vec_capacity slots.old }
     requires vacant_fit { vec_len slots.old < vec_capacity vacant.old }
     ensures vacant { AreVacant slots.new.items vacant.new.items (vec_capacity vacant.new) }
-    ensures entries { (place : ℕ) → entry_at slots.new.items place ≡ entry_at slots.old.items place }
+    ensures entries { (place : ℕ)
+        → entry_at slots.new.items place ≡ entry_at slots.old.items place }
     ensures more { length vacant.new.items ≡ length vacant.old.items + 1 }
     ensures len { length slots.new.items ≡ length slots.old.items + 1 }
     ensures slots_capacity { vec_capacity slots.old ≤ vec_capacity slots.new }
@@ -34,7 +35,8 @@ pub fn open_places(slots: &mut Vec<Option<Entry>>, vacant: &mut Vec<usize>, n: u
     requires slots_fit { vec_len slots.old + n ≤ vec_capacity slots.old }
     requires vacant_fit { vec_len slots.old + n ≤ vec_capacity vacant.old }
     ensures vacant { AreVacant slots.new.items vacant.new.items (vec_capacity vacant.new) }
-    ensures entries { (place : ℕ) → entry_at slots.new.items place ≡ entry_at slots.old.items place }
+    ensures entries { (place : ℕ)
+        → entry_at slots.new.items place ≡ entry_at slots.old.items place }
     ensures more { length vacant.new.items ≡ length vacant.old.items + n }
     ensures len { length slots.new.items ≡ length slots.old.items + n }
 {
@@ -51,7 +53,8 @@ pub fn put_at(slots: &mut Vec<Option<Entry>>, vacant: &mut Vec<usize>, entry: En
     ensures was_vacant { entry_at slots.old.items result ≡ None }
     ensures within { result < length slots.old.items }
     ensures here { entry_at slots.new.items result ≡ Some entry }
-    ensures others { (other : ℕ) → other ≢ result → entry_at slots.new.items other ≡ entry_at slots.old.items other }
+    ensures others { (other : ℕ) → other ≢ result
+        → entry_at slots.new.items other ≡ entry_at slots.old.items other }
     ensures fewer { length vacant.new.items + 1 ≡ length vacant.old.items }
     ensures len { length slots.new.items ≡ length slots.old.items }
 {
@@ -72,7 +75,8 @@ pub fn remove_at(
     ensures vacant { AreVacant slots.new.items vacant.new.items (vec_capacity vacant.new) }
     ensures entry { result ≡ entry_at slots.old.items place }
     ensures slots { slots.new.items ≡ slice_set slots.old.items place None }
-    ensures more { length vacant.new.items ≡ length vacant.old.items + (if is_some result then 1 else 0) }
+    ensures more { length vacant.new.items
+        ≡ length vacant.old.items + (if is_some result then 1 else 0) }
     ensures len { length slots.new.items ≡ length slots.old.items }
 {
     if place >= slots.len() {

@@ -47,7 +47,8 @@ impl EntryTable {
 
     /// Makes room for `n` more entries, by at most `n` more places. An error is want of memory, and leaves all as it was.
     pub fn reserve(&mut self, n: usize) -> Result<(), AllocError>
-        ensures entries { (place : ℕ) → entry_at self.new.slots place ≡ entry_at self.old.slots place }
+        ensures entries { (place : ℕ)
+            → entry_at self.new.slots place ≡ entry_at self.old.slots place }
         ensures enough { OnOk result (n ≤ self.new.spare) }
         ensures spare { self.old.spare ≤ self.new.spare }
         ensures room { self.old.room ≤ self.new.room }
@@ -79,7 +80,8 @@ impl EntryTable {
         ensures vacant { entry_at self.old.slots result ≡ None }
         ensures in_room { result < self.old.room }
         ensures here { entry_at self.new.slots result ≡ Some e }
-        ensures others { (other : ℕ) → other ≢ result → entry_at self.new.slots other ≡ entry_at self.old.slots other }
+        ensures others { (other : ℕ) → other ≢ result
+            → entry_at self.new.slots other ≡ entry_at self.old.slots other }
         ensures spare { self.new.spare + 1 ≡ self.old.spare }
         ensures room { self.new.room ≡ self.old.room }
     {

@@ -37,10 +37,13 @@ fn doom<Q: QueueKind, P: PoolKind>(
     doomed: &mut Vec<u32>,
 ) -> Result<PeerSet, Reason>
     requires clock { IsClock peer.old.part.clock }
-    requires new_keys { StagesAnew peer.old.part peer.old.part.me (length (begin_serials (open_in driver.now.part).command peer.old.part)) }
+    requires new_keys { StagesAnew peer.old.part peer.old.part.me
+        (length (begin_serials (open_in driver.now.part).command peer.old.part)) }
     requires empty { doomed.old.items ≡ [] }
     requires room { length peer.old.part.nodes ≤ vec_capacity doomed.old }
-    ensures event { destroy_by (begin_refusal (open_in driver.now.part).command peer.old.part) (begin_serials (open_in driver.now.part).command peer.old.part) peer.old.part ≡ (out.BeginDestroy result doomed.new.items, peer.new.part) }
+    ensures event { destroy_by (begin_refusal (open_in driver.now.part).command peer.old.part)
+        (begin_serials (open_in driver.now.part).command peer.old.part) peer.old.part
+        ≡ (out.BeginDestroy result doomed.new.items, peer.new.part) }
     ensures users { peer.new.users ≡ peer.old.users }
     ensures capacity { vec_capacity doomed.new ≡ vec_capacity doomed.old }
 {

@@ -69,7 +69,8 @@ pub fn drop_refs<Q: QueueKind, P: PoolKind>(
     peer: &mut PeerState<Q, P>,
 )
     requires next { next_action driver.old.part ≡ act.DropRefs owner serial holder k clock }
-    requires allowed { Allowed driver.old.part (act.DropRefs owner serial holder k clock) peer.old.part }
+    requires allowed { Allowed driver.old.part
+        (act.DropRefs owner serial holder k clock) peer.old.part }
     ensures { (o : Openings) → Does o driver.old peer.old driver.new peer.new }
 {
     peer.drop_refs(serial, holder, k, clock);
@@ -91,8 +92,10 @@ fn local_answer<Q: QueueKind, P: PoolKind>(
     peer: &mut PeerState<Q, P>,
 ) -> Answer
     requires next { next_action driver.now.part ≡ act.Local }
-    ensures answer { result ≡ answer_of_local driver.now.part.shut (open_in driver.now.part).command peer.old.part }
-    ensures part { peer.new.part ≡ local_part driver.now.part.shut (open_in driver.now.part).command peer.old.part }
+    ensures answer { result ≡ answer_of_local driver.now.part.shut
+        (open_in driver.now.part).command peer.old.part }
+    ensures part { peer.new.part
+        ≡ local_part driver.now.part.shut (open_in driver.now.part).command peer.old.part }
     ensures users { peer.new.users ≡ peer.old.users }
 {
     if driver.is_shut() {
@@ -111,7 +114,8 @@ fn local_answer<Q: QueueKind, P: PoolKind>(
 
 // A received slice is given back.
 fn release_slice<Q: QueueKind, P: PoolKind>(offset: u64, peer: &mut PeerState<Q, P>) -> Answer
-    ensures answer { result ≡ if is_received offset peer.old.part.slices then answer.Done else refused_at (reason.Unknown offset) None }
+    ensures answer { result ≡ if is_received offset peer.old.part.slices then answer.Done
+        else refused_at (reason.Unknown offset) None }
     ensures part { peer.new.part ≡ slice_released peer.old.part offset }
     ensures users { peer.new.users ≡ peer.old.users }
 {

@@ -39,7 +39,8 @@ fn begin_send<Q: QueueKind, P: PoolKind>(
     ensures room { HasRoomFor driver.new.room result }
     ensures doomed { driver.old.doomed ≤ driver.new.doomed }
     ensures here { driver.old.doomed ≤ driver.old.here → driver.new.doomed ≤ driver.new.here }
-    ensures nodes { length peer.new.part.nodes + driver.old.doomed ≤ length peer.old.part.nodes + driver.new.doomed }
+    ensures nodes { length peer.new.part.nodes + driver.old.doomed
+        ≤ length peer.old.part.nodes + driver.new.doomed }
 {
     let room = driver.room();
     let Some(Command::Send(send)) = driver.command() else {

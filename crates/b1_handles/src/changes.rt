@@ -14,9 +14,11 @@ use std::alloc::AllocError;
 pub fn expect_in(records: &mut Vec<Handle>, node: NodeRef) -> Result<bool, AllocError>
     requires { AllPairs (λ a b. ref_before a.node b.node ≡ true) records.old.items }
     ensures made { IfOk result (λ made. made ≡ is_none (record_of node records.old.items)) }
-    ensures records { OnOk result (records.new.items ≡ changed_or_made node more_flight records.old.items) }
+    ensures records { OnOk result (records.new.items
+        ≡ changed_or_made node more_flight records.old.items) }
     ensures unchanged { OnErr result (records.new.items ≡ records.old.items) }
-    ensures sound { (given : ℕ) → IsSound given records.old.items → IsSound given records.new.items }
+    ensures sound { (given : ℕ) → IsSound given records.old.items
+        → IsSound given records.new.items }
 {
     let place = place_for(records, node);
     if is_at(records, place, node) {
@@ -37,7 +39,8 @@ pub fn expect_in(records: &mut Vec<Handle>, node: NodeRef) -> Result<bool, Alloc
 pub fn unexpect_in(records: &mut Vec<Handle>, node: NodeRef)
     requires { 0 < (record_or_none node records.old.items).flight }
     ensures records { records.new.items ≡ changed node less_flight records.old.items }
-    ensures sound { (given : ℕ) → IsSound given records.old.items → IsSound given records.new.items }
+    ensures sound { (given : ℕ) → IsSound given records.old.items
+        → IsSound given records.new.items }
 {
     if let Some(place) = index_of(records, node) {
         records[place].less_flight();
@@ -51,8 +54,10 @@ pub fn gain_in(records: &mut Vec<Handle>, node: NodeRef, next: u64) -> Held
     requires fits { (record_or_none node records.old.items).held < 2 ^ 63 }
     ensures number { result.number ≡ unwrap_or (record_or_none node records.old.items).number next }
     ensures is_new { result.is_new ≡ ((record_or_none node records.old.items).held == 0) }
-    ensures records { records.new.items ≡ changed node (λ h. more_held next (less_flight h)) records.old.items }
-    ensures sound { (given : ℕ) → next ≡ next_number given → IsSound given records.old.items → IsSound (if result.is_new then given + 1 else given) records.new.items }
+    ensures records { records.new.items
+        ≡ changed node (λ h. more_held next (less_flight h)) records.old.items }
+    ensures sound { (given : ℕ) → next ≡ next_number given → IsSound given records.old.items
+        → IsSound (if result.is_new then given + 1 else given) records.new.items }
 {
     let Some(place) = index_of(records, node) else {
         unreachable!()
@@ -64,11 +69,16 @@ pub fn gain_in(records: &mut Vec<Handle>, node: NodeRef, next: u64) -> Held
 pub fn wire_in(records: &mut Vec<Handle>, node: NodeRef, next: u64) -> Result<Held, AllocError>
     requires ordered { AllPairs (λ a b. ref_before a.node b.node ≡ true) records.old.items }
     requires fits { (record_or_none node records.old.items).held < 2 ^ 63 }
-    ensures number { IfOk result (λ held. held.number ≡ unwrap_or (record_or_none node records.old.items).number next) }
-    ensures is_new { IfOk result (λ held. held.is_new ≡ ((record_or_none node records.old.items).held == 0)) }
-    ensures records { OnOk result (records.new.items ≡ changed_or_made node (more_held next) records.old.items) }
+    ensures number { IfOk result (λ held. held.number
+        ≡ unwrap_or (record_or_none node records.old.items).number next) }
+    ensures is_new { IfOk result (λ held. held.is_new
+        ≡ ((record_or_none node records.old.items).held == 0)) }
+    ensures records { OnOk result (records.new.items
+        ≡ changed_or_made node (more_held next) records.old.items) }
     ensures unchanged { OnErr result (records.new.items ≡ records.old.items) }
-    ensures sound { IfOk result (λ held. (given : ℕ) → next ≡ next_number given → IsSound given records.old.items → IsSound (if held.is_new then given + 1 else given) records.new.items) }
+    ensures sound { IfOk result (λ held. (given : ℕ) → next ≡ next_number given
+        → IsSound given records.old.items
+        → IsSound (if held.is_new then given + 1 else given) records.new.items) }
 {
     let place = place_for(records, node);
     if is_at(records, place, node) {
@@ -84,9 +94,11 @@ pub fn wire_in(records: &mut Vec<Handle>, node: NodeRef, next: u64) -> Result<He
 pub fn give_up_in(records: &mut Vec<Handle>, number: u64) -> Option<NodeRef>
     requires { AllPairs (λ a b. ref_before a.node b.node ≡ true) records.old.items }
     ensures node { result ≡ held_node number records.old.items }
-    ensures records { IfSome result (λ node. records.new.items ≡ changed node less_held records.old.items) }
+    ensures records { IfSome result (λ node. records.new.items
+        ≡ changed node less_held records.old.items) }
     ensures unchanged { IfNone result (records.new.items ≡ records.old.items) }
-    ensures sound { (given : ℕ) → IsSound given records.old.items → IsSound given records.new.items }
+    ensures sound { (given : ℕ) → IsSound given records.old.items
+        → IsSound given records.new.items }
 {
     let place = index_of_number(records, number)?;
     let handle = &mut records[place];
@@ -99,8 +111,10 @@ pub fn give_up_in(records: &mut Vec<Handle>, number: u64) -> Option<NodeRef>
 /// Counts a node's destroy notice as queued. Whether the node has a record and had no notice queued.
 pub fn notify_in(records: &mut Vec<Handle>, node: NodeRef) -> bool
     ensures needed { result ≡ needs_notice node records.old.items }
-    ensures records { records.new.items ≡ (if result then changed node noticed records.old.items else records.old.items) }
-    ensures sound { (given : ℕ) → IsSound given records.old.items → IsSound given records.new.items }
+    ensures records { records.new.items
+        ≡ (if result then changed node noticed records.old.items else records.old.items) }
+    ensures sound { (given : ℕ) → IsSound given records.old.items
+        → IsSound given records.new.items }
 {
     let Some(place) = index_of(records, node) else {
         return false;
@@ -116,7 +130,8 @@ pub fn notify_in(records: &mut Vec<Handle>, node: NodeRef) -> bool
 /// A node's queued destroy notice has left the queue.
 pub fn mark_dead_in(records: &mut Vec<Handle>, node: NodeRef)
     ensures records { records.new.items ≡ changed node made_dead records.old.items }
-    ensures sound { (given : ℕ) → IsSound given records.old.items → IsSound given records.new.items }
+    ensures sound { (given : ℕ) → IsSound given records.old.items
+        → IsSound given records.new.items }
 {
     if let Some(place) = index_of(records, node) {
         records[place].kill();

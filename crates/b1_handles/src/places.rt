@@ -61,7 +61,8 @@ pub fn settle(records: &mut Vec<Handle>, place: usize)
 /// Whether a node's record stands at a place.
 pub fn is_at(records: &[Handle], place: usize, node: NodeRef) -> bool
     ensures within { result ≡ true → place < length records.now }
-    ensures same { (d : HandleRecord) → place < length records.now → same_ref (slice_index_or records.now place d).node node ≡ result }
+    ensures same { (d : HandleRecord) → place < length records.now
+        → same_ref (slice_index_or records.now place d).node node ≡ result }
 {
     match records.get(place) {
         Some(handle) => is_same(handle.node(), node),

@@ -61,7 +61,8 @@ impl HandleTable {
     /// where 2^64 - 1 slots carry the node, and leaves all as it was.
     pub fn expect(&mut self, node: NodeRef) -> Result<bool, AllocError>
         ensures made { IfOk result (λ made. made ≡ is_none (record_of node self.old.records)) }
-        ensures expected { OnOk result (self.new ≡ record self.old { records = changed_or_made node more_flight self.old.records }) }
+        ensures expected { OnOk result (self.new
+            ≡ record self.old { records = changed_or_made node more_flight self.old.records }) }
         ensures unchanged { OnErr result (self.new ≡ self.old) }
     {
         expect_in(&mut self.records, node)
@@ -108,8 +109,10 @@ impl HandleTable {
     /// A node is held once less; its number ends with the last, and a record that isn't needed any more goes. The answer is
     /// the node. An error is that no node is held under the number, and leaves all as it was.
     pub fn give_up(&mut self, number: u64) -> Result<NodeRef, NoHandle>
-        ensures answer { MatchResult result (λ node. held_node number self.old.records ≡ Some node) (λ _. held_node number self.old.records ≡ None) }
-        ensures given_up { IfOk result (λ node. self.new ≡ record self.old { records = changed node less_held self.old.records }) }
+        ensures answer { MatchResult result (λ node. held_node number self.old.records
+            ≡ Some node) (λ _. held_node number self.old.records ≡ None) }
+        ensures given_up { IfOk result (λ node. self.new
+            ≡ record self.old { records = changed node less_held self.old.records }) }
         ensures unchanged { OnErr result (self.new ≡ self.old) }
     {
         match give_up_in(&mut self.records, number) {
@@ -122,7 +125,10 @@ impl HandleTable {
     /// whether that is so.
     pub fn notify(&mut self, node: NodeRef) -> bool
         ensures needed { result ≡ needs_notice node self.old.records }
-        ensures notified { self.new ≡ record self.old { records = if result then changed node noticed self.old.records else self.old.records } }
+        ensures notified { self.new ≡ record self.old {
+          records = if result
+              then changed node noticed self.old.records else self.old.records;
+        } }
     {
         notify_in(&mut self.records, node)
     }
@@ -179,8 +185,10 @@ impl HandleTable {
     /// Removes the record of the node that is held under the least number. The answer is the node, and how often it was
     /// held. Where no node is held it is `None`, and no record is left. The numbers that were given stay counted.
     pub fn flush_next(&mut self) -> Option<(NodeRef, u64)>
-        ensures next { held_items self.old.given self.old.records ≡ flushed_item result ++ held_items self.new.given self.new.records }
-        ensures removed { IfSome result (λ r. self.new ≡ record self.old { records = without_node r.0 self.old.records }) }
+        ensures next { held_items self.old.given self.old.records ≡ flushed_item result
+            ++ held_items self.new.given self.new.records }
+        ensures removed { IfSome result (λ r. self.new
+            ≡ record self.old { records = without_node r.0 self.old.records }) }
         ensures emptied { IfNone result (self.new ≡ record self.old { records = [] }) }
     {
         let Some(least) = least_place(&self.records) else {

@@ -12,7 +12,8 @@ use std::sync::ledger::{Blank, Ledger};
 pub fn find_cell(cells: &[(Key, usize)], places: &[usize], item: usize) -> Option<usize>
     requires { IsIndexed cells.now places.now }
     ensures found { IfSome result (λ at. at < length cells.now) }
-    ensures item { IfSome result (λ at. (d : KeySeen × ℕ) → (slice_index_or cells.now at d).1 ≡ item) }
+    ensures item { IfSome result (λ at. (d : KeySeen × ℕ)
+        → (slice_index_or cells.now at d).1 ≡ item) }
     ensures none { IfNone result (All (λ cell. cell.1 ≢ item) cells.now) }
 {
     let at = *places.get(item)?;
@@ -36,7 +37,8 @@ pub fn add_cell<L: Ledger>(
     requires new_item { IsNewItem cell.1 (in_key_order cells.old.items) }
     requires heap { IsIndexedHeap cells.old.items places.old }
     ensures heap { IsIndexedHeap cells.new.items places.new }
-    ensures listed { in_key_order cells.new.items ≡ with_entry cell.0 cell.1 (in_key_order cells.old.items) }
+    ensures listed { in_key_order cells.new.items
+        ≡ with_entry cell.0 cell.1 (in_key_order cells.old.items) }
     ensures len { vec_len cells.new ≡ vec_len cells.old + 1 }
     ensures capacity { vec_capacity cells.new ≡ vec_capacity cells.old }
     ensures counted { steps.old ≤ steps.new }
@@ -57,7 +59,8 @@ fn take_cell(cells: &mut Vec<(Key, usize)>, places: &mut [usize], at: usize) -> 
     requires indexed { IsIndexed cells.old.items places.old }
     ensures value { result ≡ slice_index_or cells.old.items at result }
     ensures moved { IsPermutation cells.old.items (result ∷ cells.new.items) }
-    ensures kept { (place : ℕ) (d : KeySeen × ℕ) → place < length cells.new.items → place ≢ at → slice_index_or cells.new.items place d ≡ slice_index_or cells.old.items place d }
+    ensures kept { (place : ℕ) (d : KeySeen × ℕ) → place < length cells.new.items → place ≢ at
+        → slice_index_or cells.new.items place d ≡ slice_index_or cells.old.items place d }
     ensures indexed { IsIndexed cells.new.items places.new }
     ensures len { vec_len cells.new + 1 ≡ vec_len cells.old }
     ensures capacity { vec_capacity cells.new ≡ vec_capacity cells.old }
@@ -82,7 +85,8 @@ pub fn take_root<L: Ledger>(
     ensures len { vec_len cells.new + 1 ≡ vec_len cells.old }
     ensures capacity { vec_capacity cells.new ≡ vec_capacity cells.old }
     ensures counted { steps.old ≤ steps.new }
-    ensures cost { (levels : ℕ) × (2 ^ levels ≤ vec_len cells.old) × (steps.new ≤ steps.old + 2 * levels) }
+    ensures cost { (levels : ℕ) × (2 ^ levels ≤ vec_len cells.old)
+        × (steps.new ≤ steps.old + 2 * levels) }
 {
     let cell = take_cell(cells, places, 0);
     if !cells.is_empty() {
@@ -106,7 +110,8 @@ pub fn remove_cell<L: Ledger>(
     ensures value { result ≡ slice_index_or cells.old.items at result }
     ensures key { key_of result.1 (in_key_order cells.old.items) ≡ Some result.0 }
     ensures heap { IsIndexedHeap cells.new.items places.new }
-    ensures listed { in_key_order cells.new.items ≡ without result.1 (in_key_order cells.old.items) }
+    ensures listed { in_key_order cells.new.items
+        ≡ without result.1 (in_key_order cells.old.items) }
     ensures len { vec_len cells.new + 1 ≡ vec_len cells.old }
     ensures capacity { vec_capacity cells.new ≡ vec_capacity cells.old }
 {
@@ -132,7 +137,9 @@ pub fn restamp_cell<L: Ledger>(
     requires new_key { IsNewKey new (in_key_order cells.old) }
     requires heap { IsIndexedHeap cells.old places.old }
     ensures heap { IsIndexedHeap cells.new places.new }
-    ensures listed { (d : KeySeen × ℕ) → in_key_order cells.new ≡ restamped (slice_index_or cells.old at d).1 new (in_key_order cells.old) }
+    ensures listed { (d : KeySeen × ℕ)
+        → in_key_order cells.new
+        ≡ restamped (slice_index_or cells.old at d).1 new (in_key_order cells.old) }
 {
     cells[at].0 = new;
     settle::<L>(cells, places, at, blank);

@@ -77,11 +77,16 @@ impl IndexedHeap {
         requires in_room { item < ⟦<IndexedHeap as QueueKind>⟧.room self.old }
         requires new_key { IsNewKey key (⟦<IndexedHeap as QueueKind>⟧.listed self.old) }
         requires new_item { IsNewItem item (⟦<IndexedHeap as QueueKind>⟧.listed self.old) }
-        ensures listed { ⟦<IndexedHeap as QueueKind>⟧.listed self.new ≡ with_entry key item (⟦<IndexedHeap as QueueKind>⟧.listed self.old) }
-        ensures spare { ⟦<IndexedHeap as QueueKind>⟧.spare self.new + 1 ≡ ⟦<IndexedHeap as QueueKind>⟧.spare self.old }
-        ensures room { ⟦<IndexedHeap as QueueKind>⟧.room self.new ≡ ⟦<IndexedHeap as QueueKind>⟧.room self.old }
+        ensures listed { ⟦<IndexedHeap as QueueKind>⟧.listed self.new
+            ≡ with_entry key item (⟦<IndexedHeap as QueueKind>⟧.listed self.old) }
+        ensures spare { ⟦<IndexedHeap as QueueKind>⟧.spare self.new + 1
+            ≡ ⟦<IndexedHeap as QueueKind>⟧.spare self.old }
+        ensures room { ⟦<IndexedHeap as QueueKind>⟧.room self.new
+            ≡ ⟦<IndexedHeap as QueueKind>⟧.room self.old }
         ensures counted { steps.old ≤ steps.new }
-        ensures cost { (depth : ℕ) → IsDepth depth (length (⟦<IndexedHeap as QueueKind>⟧.listed self.new)) → steps.new ≤ steps.old + depth }
+        ensures cost { (depth : ℕ)
+            → IsDepth depth (length (⟦<IndexedHeap as QueueKind>⟧.listed self.new))
+            → steps.new ≤ steps.old + depth }
     {
         add_cell(&mut self.cells, &mut self.places, (key, item), steps);
     }
@@ -90,11 +95,16 @@ impl IndexedHeap {
     /// `2 ^ depth` is at most the number of items before, and `depth` the greatest such number; an empty queue takes none.
     pub fn take_counted<L: Ledger>(&mut self, steps: &mut Steps<L>) -> Option<(Key, usize)>
         ensures front { result ≡ slice_get (⟦<IndexedHeap as QueueKind>⟧.listed self.old) 0 }
-        ensures listed { ⟦<IndexedHeap as QueueKind>⟧.listed self.new ≡ drop 1 (⟦<IndexedHeap as QueueKind>⟧.listed self.old) }
-        ensures spare { ⟦<IndexedHeap as QueueKind>⟧.spare self.new ≡ ⟦<IndexedHeap as QueueKind>⟧.spare self.old + (if is_some result then 1 else 0) }
-        ensures room { ⟦<IndexedHeap as QueueKind>⟧.room self.new ≡ ⟦<IndexedHeap as QueueKind>⟧.room self.old }
+        ensures listed { ⟦<IndexedHeap as QueueKind>⟧.listed self.new
+            ≡ drop 1 (⟦<IndexedHeap as QueueKind>⟧.listed self.old) }
+        ensures spare { ⟦<IndexedHeap as QueueKind>⟧.spare self.new
+            ≡ ⟦<IndexedHeap as QueueKind>⟧.spare self.old + (if is_some result then 1 else 0) }
+        ensures room { ⟦<IndexedHeap as QueueKind>⟧.room self.new
+            ≡ ⟦<IndexedHeap as QueueKind>⟧.room self.old }
         ensures counted { steps.old ≤ steps.new }
-        ensures cost { (depth : ℕ) → IsDepth depth (length (⟦<IndexedHeap as QueueKind>⟧.listed self.old)) → steps.new ≤ steps.old + 2 * depth }
+        ensures cost { (depth : ℕ)
+            → IsDepth depth (length (⟦<IndexedHeap as QueueKind>⟧.listed self.old))
+            → steps.new ≤ steps.old + 2 * depth }
         ensures free { ⟦<IndexedHeap as QueueKind>⟧.listed self.old ≡ [] → steps.new ≡ steps.old }
     {
         if self.cells.is_empty() {
@@ -113,9 +123,12 @@ fn put_uncounted<L: Ledger>(heap: &mut IndexedHeap, key: Key, item: usize, blank
     requires in_room { item < ⟦<IndexedHeap as QueueKind>⟧.room heap.old }
     requires new_key { IsNewKey key (⟦<IndexedHeap as QueueKind>⟧.listed heap.old) }
     requires new_item { IsNewItem item (⟦<IndexedHeap as QueueKind>⟧.listed heap.old) }
-    ensures listed { ⟦<IndexedHeap as QueueKind>⟧.listed heap.new ≡ with_entry key item (⟦<IndexedHeap as QueueKind>⟧.listed heap.old) }
-    ensures spare { ⟦<IndexedHeap as QueueKind>⟧.spare heap.new + 1 ≡ ⟦<IndexedHeap as QueueKind>⟧.spare heap.old }
-    ensures room { ⟦<IndexedHeap as QueueKind>⟧.room heap.new ≡ ⟦<IndexedHeap as QueueKind>⟧.room heap.old }
+    ensures listed { ⟦<IndexedHeap as QueueKind>⟧.listed heap.new
+        ≡ with_entry key item (⟦<IndexedHeap as QueueKind>⟧.listed heap.old) }
+    ensures spare { ⟦<IndexedHeap as QueueKind>⟧.spare heap.new + 1
+        ≡ ⟦<IndexedHeap as QueueKind>⟧.spare heap.old }
+    ensures room { ⟦<IndexedHeap as QueueKind>⟧.room heap.new
+        ≡ ⟦<IndexedHeap as QueueKind>⟧.room heap.old }
 {
     let mut steps = Steps::<L>::start(blank);
     heap.put_counted(key, item, &mut steps);
@@ -127,9 +140,12 @@ fn take_uncounted<L: Ledger>(heap: &mut IndexedHeap, blank: Blank) -> Option<(Ke
     requires parts { blank.parts ≡ L.parts }
     requires some { 0 < blank.parts }
     ensures front { result ≡ slice_get (⟦<IndexedHeap as QueueKind>⟧.listed heap.old) 0 }
-    ensures listed { ⟦<IndexedHeap as QueueKind>⟧.listed heap.new ≡ drop 1 (⟦<IndexedHeap as QueueKind>⟧.listed heap.old) }
-    ensures spare { ⟦<IndexedHeap as QueueKind>⟧.spare heap.new ≡ ⟦<IndexedHeap as QueueKind>⟧.spare heap.old + (if is_some result then 1 else 0) }
-    ensures room { ⟦<IndexedHeap as QueueKind>⟧.room heap.new ≡ ⟦<IndexedHeap as QueueKind>⟧.room heap.old }
+    ensures listed { ⟦<IndexedHeap as QueueKind>⟧.listed heap.new
+        ≡ drop 1 (⟦<IndexedHeap as QueueKind>⟧.listed heap.old) }
+    ensures spare { ⟦<IndexedHeap as QueueKind>⟧.spare heap.new
+        ≡ ⟦<IndexedHeap as QueueKind>⟧.spare heap.old + (if is_some result then 1 else 0) }
+    ensures room { ⟦<IndexedHeap as QueueKind>⟧.room heap.new
+        ≡ ⟦<IndexedHeap as QueueKind>⟧.room heap.old }
 {
     let mut steps = Steps::<L>::start(blank);
     heap.take_counted(&mut steps)

@@ -97,7 +97,8 @@ pub fn sift_down<L: Ledger>(
     ensures indexed { IsIndexed cells.new places.new }
     ensures heap { IsHeap cells.new }
     ensures counted { steps.old ≤ steps.new }
-    ensures cost { (levels : ℕ) × (2 ^ levels * (at + 1) ≤ length cells.old) × (steps.new ≤ steps.old + 2 * levels) }
+    ensures cost { (levels : ℕ) × (2 ^ levels * (at + 1) ≤ length cells.old)
+        × (steps.new ≤ steps.old + 2 * levels) }
 {
     let mut place = at;
     while let Some(child) = least_child(cells, place, steps) {

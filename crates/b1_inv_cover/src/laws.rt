@@ -17,7 +17,8 @@ ghost use Rattle.b1_inv_record.specs.Right.{ClocksCover};
 /// the driver's own peer.
 pub fn clocks_cover()
     ensures opening { (o : Opening) → IsOpening o → ClocksCover (opening_state o) }
-    ensures kept { (o : Opening) (s : State) (p : ℕ) (c : Option Command) (t : State) → IsSound o s → ClocksCover s
+    ensures kept { (o : Opening) (s : State) (p : ℕ) (c : Option Command) (t : State) → IsSound o s
+        → ClocksCover s
         → Step o s p c t → ClocksCover t }
     ensures reached { (o : Opening) (s : State) → IsOpening o → Reached o s → ClocksCover s }
 {}
@@ -33,6 +34,8 @@ pub fn clocks_stay_bounded()
 /// after them names the same node.
 pub fn given_numbers_are_new()
     ensures step { EachStep (λ o s p c t step. GivenRises s t) }
-    ensures node { (o : Opening) (s : State) (steps : List Label) (t : State) → IsSound o s → Leads o s steps t → NumbersStay s t }
-    ensures reached { (o : Opening) (s : State) (steps : List Label) (t : State) → IsOpening o → Reached o s → Leads o s steps t → NumbersStay s t }
+    ensures node { (o : Opening) (s : State) (steps : List Label) (t : State) → IsSound o s
+        → Leads o s steps t → NumbersStay s t }
+    ensures reached { (o : Opening) (s : State) (steps : List Label) (t : State) → IsOpening o
+        → Reached o s → Leads o s steps t → NumbersStay s t }
 {}

@@ -14,7 +14,9 @@ ghost use Rattle.b1_inv_record.specs.Right.{IsRight, PartsRight};
 /// Steps need no other group for it, so it is so of every reached state.
 pub fn parts_stay_right()
     ensures opening { (o : Opening) → IsOpening o → PartsRight (opening_state o) }
-    ensures kept { (o : Opening) (s : State) (p : ℕ) (c : Maybe Command) (t : State) → IsSound o s → IsRight o s → Step o s p c t → PartsRight t }
-    ensures alone { (o : Opening) (s : State) (p : ℕ) (c : Maybe Command) (t : State) → IsSound o s → PartsRight s → Step o s p c t → PartsRight t }
+    ensures kept { (o : Opening) (s : State) (p : ℕ) (c : Maybe Command) (t : State) → IsSound o s
+        → IsRight o s → Step o s p c t → PartsRight t }
+    ensures alone { (o : Opening) (s : State) (p : ℕ) (c : Maybe Command) (t : State) → IsSound o s
+        → PartsRight s → Step o s p c t → PartsRight t }
     ensures reached { (o : Opening) (s : State) → IsOpening o → Reached o s → PartsRight s }
 {}

@@ -21,7 +21,8 @@ pub trait Source {
     fn read(&mut self, buf: &mut [u8]) -> Result<usize, Failed>
         ensures within { IfOk result (λ n. n ≤ length buf.new) }
         ensures first { IfOk result (λ n. Gave (left self.old) (left self.new) (take n buf.new)) }
-        ensures end { IfOk result (λ n. 0 < length buf.new → IfSome (left self.old) (λ held. (n ≡ 0) ↔ (held ≡ []))) }
+        ensures end { IfOk result (λ n. 0 < length buf.new
+            → IfSome (left self.old) (λ held. (n ≡ 0) ↔ (held ≡ []))) }
         ensures none { OnErr result (left self.new ≡ left self.old) }
         ensures fault { OnErr result (Rose (faults self.old) (faults self.new)) }
         ensures never_falls { faults self.old ≤ faults self.new };
@@ -41,7 +42,8 @@ pub trait Sink {
     fn write(&mut self, piece: &[u8]) -> Result<usize, Failed>
         ensures within { IfOk result (λ n. n ≤ length piece.now) }
         ensures some { IfOk result (λ n. 0 < length piece.now → 0 < n) }
-        ensures takes { IfOk result (λ n. Took (taken self.old) (taken self.new) (take n piece.now)) }
+        ensures takes { IfOk result (λ n.
+            Took (taken self.old) (taken self.new) (take n piece.now)) }
         ensures none { OnErr result (taken self.new ≡ taken self.old) }
         ensures fault { OnErr result (Rose (faults self.old) (faults self.new)) }
         ensures never_falls { faults self.old ≤ faults self.new };

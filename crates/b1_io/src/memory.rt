@@ -34,7 +34,13 @@ impl MemSource {
     /// are in `fails`, counted from 0, fail; the count of calls stays at 2^64 - 1 once it is there.
     pub fn make(bytes: Vec<u8>, per_call: usize, fails: Vec<u64>) -> MemSource
         requires { 0 < per_call }
-        ensures { result ≡ record { left = bytes.items; per_call = per_call; fails = fails.items; calls = 0; faults = 0 } }
+        ensures { result ≡ record {
+          left = bytes.items;
+          per_call = per_call;
+          fails = fails.items;
+          calls = 0;
+          faults = 0;
+        } }
     {
         MemSource {
             bytes,
@@ -56,8 +62,10 @@ impl Source for MemSource {
     /// call is named.
     fn read(&mut self, buf: &mut [u8]) -> Result<usize, Failed>
         ensures within { IfOk result (λ n. n ≤ length buf.new) }
-        ensures first { IfOk result (λ n. Gave (Some self.old.left) (Some self.new.left) (take n buf.new)) }
-        ensures end { IfOk result (λ n. 0 < length buf.new → IfSome (Some self.old.left) (λ held. (n ≡ 0) ↔ (held ≡ []))) }
+        ensures first { IfOk result (λ n.
+            Gave (Some self.old.left) (Some self.new.left) (take n buf.new)) }
+        ensures end { IfOk result (λ n. 0 < length buf.new
+            → IfSome (Some self.old.left) (λ held. (n ≡ 0) ↔ (held ≡ []))) }
         ensures none { OnErr result (Some self.new.left ≡ Some self.old.left) }
         ensures fault { OnErr result (Rose self.old.faults self.new.faults) }
         ensures never_falls { self.old.faults ≤ self.new.faults }
@@ -112,7 +120,15 @@ impl MemSink {
         fails: Vec<u64>,
     ) -> Result<MemSink, AllocError>
         requires { 0 < per_call }
-        ensures { IfOk result (λ s. s ≡ record { taken = []; room = room; per_call = per_call; fails = fails.items; calls = 0; faults = 0 }) }
+        ensures { IfOk result (λ s. s
+            ≡ record {
+              taken = [];
+              room = room;
+              per_call = per_call;
+              fails = fails.items;
+              calls = 0;
+              faults = 0;
+            }) }
     {
         let taken = Vec::with_capacity(alloc, room)?;
         Ok(MemSink {
@@ -143,7 +159,8 @@ impl Sink for MemSink {
     fn write(&mut self, piece: &[u8]) -> Result<usize, Failed>
         ensures within { IfOk result (λ n. n ≤ length piece.now) }
         ensures some { IfOk result (λ n. 0 < length piece.now → 0 < n) }
-        ensures takes { IfOk result (λ n. Took (Some self.old.taken) (Some self.new.taken) (take n piece.now)) }
+        ensures takes { IfOk result (λ n.
+            Took (Some self.old.taken) (Some self.new.taken) (take n piece.now)) }
         ensures none { OnErr result (Some self.new.taken ≡ Some self.old.taken) }
         ensures fault { OnErr result (Rose self.old.faults self.new.faults) }
         ensures never_falls { self.old.faults ≤ self.new.faults }

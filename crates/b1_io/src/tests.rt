@@ -7,13 +7,15 @@ use std::test::Fail;
 
 // What a caller over any source and sink can promise of its statuses.
 fn relay<S: Source, K: Sink>(alloc: Global, source: &mut S, sink: &mut K) -> u8
-    ensures took { result ≡ 0 → IfSome (S.left source.old) (λ held. Took (K.taken sink.old) (K.taken sink.new) held) }
+    ensures took { result ≡ 0 → IfSome (S.left source.old) (λ held.
+        Took (K.taken sink.old) (K.taken sink.new) held) }
     ensures ended { result ≡ 0 → IfSome (S.left source.old) (λ _. S.left source.new ≡ Some []) }
     ensures long { result ≡ 2 → IfSome (S.left source.old) (λ held. 9 < length held) }
     ensures source_fault { result ≡ 4 → Rose (S.faults source.old) (S.faults source.new) }
     ensures unwritten { result ≡ 4 → sink.new ≡ sink.old }
     ensures sink_fault { result ≡ 5 → Rose (K.faults sink.old) (K.faults sink.new) }
-    ensures prefix { result ≡ 5 → IfSome (S.left source.old) (λ held. TookSuch (K.taken sink.old) (K.taken sink.new) held (λ n. n < length held)) }
+    ensures prefix { result ≡ 5 → IfSome (S.left source.old) (λ held.
+        TookSuch (K.taken sink.old) (K.taken sink.new) held (λ n. n < length held)) }
 {
     match read_all(alloc, source, 9) {
         Ok(bytes) => match write_all(sink, &bytes) {

@@ -41,11 +41,18 @@ pub fn read_all<S: Source>(alloc: Global, source: &mut S, limit: usize) -> Resul
     ensures within { IfOk result (λ bytes. vec_len bytes ≤ limit) }
     ensures all { IfOk result (λ bytes. IfSome (S.left source.old) (λ held. bytes.items ≡ held)) }
     ensures end { OnOk result (IfSome (S.left source.old) (λ _. S.left source.new ≡ Some [])) }
-    ensures fault { IfErr result (λ e. OnFault e (Rose (S.faults source.old) (S.faults source.new))) }
-    ensures unfilled { IfErr result (λ e. OnFault e (GaveSuch (S.left source.old) (S.left source.new) (λ given. length given ≤ limit))) }
-    ensures long { IfErr result (λ e. OnLong e (IfSome (S.left source.old) (λ held. limit < length held))) }
-    ensures filled { IfErr result (λ e. OnLong e (GaveSuch (S.left source.old) (S.left source.new) (λ given. length given ≡ limit + 1))) }
-    ensures lost { OnErr result (GaveSuch (S.left source.old) (S.left source.new) (λ given. length given ≤ limit + 1)) }
+    ensures fault { IfErr result (λ e.
+        OnFault e (Rose (S.faults source.old) (S.faults source.new))) }
+    ensures unfilled { IfErr result (λ e.
+        OnFault e (GaveSuch (S.left source.old) (S.left source.new) (λ given. length given
+        ≤ limit))) }
+    ensures long { IfErr result (λ e.
+        OnLong e (IfSome (S.left source.old) (λ held. limit < length held))) }
+    ensures filled { IfErr result (λ e.
+        OnLong e (GaveSuch (S.left source.old) (S.left source.new) (λ given. length given
+        ≡ limit + 1))) }
+    ensures lost { OnErr result (GaveSuch (S.left source.old) (S.left source.new) (λ given.
+        length given ≤ limit + 1)) }
     ensures never_falls { S.faults source.old ≤ S.faults source.new }
 {
     let mut chunk = [0u8; CHUNK];
@@ -67,13 +74,16 @@ fn read_more<S: Source>(
 ) -> Result<usize, NotAll>
     requires { 0 < length chunk.old }
     ensures within { IfOk result (λ n. n ≤ length chunk.new) }
-    ensures gave { IfOk result (λ n. Gave (S.left source.old) (S.left source.new) (take n chunk.new)) }
+    ensures gave { IfOk result (λ n.
+        Gave (S.left source.old) (S.left source.new) (take n chunk.new)) }
     ensures grew { IfOk result (λ n. bytes.new.items ≡ bytes.old.items ++ take n chunk.new) }
     ensures end { IfOk result (λ n. n ≡ 0 → IsAtEnd (S.left source.new)) }
     ensures never_long { IfErr result (λ e. OnLong e ⊥) }
-    ensures fault { IfErr result (λ e. OnFault e (Rose (S.faults source.old) (S.faults source.new))) }
+    ensures fault { IfErr result (λ e.
+        OnFault e (Rose (S.faults source.old) (S.faults source.new))) }
     ensures none { IfErr result (λ e. OnFault e (S.left source.new ≡ S.left source.old)) }
-    ensures lost { OnErr result (GaveSuch (S.left source.old) (S.left source.new) (λ given. length given ≤ length chunk.new)) }
+    ensures lost { OnErr result (GaveSuch (S.left source.old) (S.left source.new) (λ given.
+        length given ≤ length chunk.new)) }
     ensures never_falls { S.faults source.old ≤ S.faults source.new }
 {
     let Ok(n) = source.read(chunk) else {
@@ -91,7 +101,8 @@ fn read_more<S: Source>(
 /// and not all.
 pub fn write_all<K: Sink>(sink: &mut K, bytes: &[u8]) -> Result<(), Failed>
     ensures all { OnOk result (Took (K.taken sink.old) (K.taken sink.new) bytes.now) }
-    ensures prefix { OnErr result (TookSuch (K.taken sink.old) (K.taken sink.new) bytes.now (λ n. n < length bytes.now)) }
+    ensures prefix { OnErr result (TookSuch (K.taken sink.old) (K.taken sink.new) bytes.now (λ n.
+        n < length bytes.now)) }
     ensures fault { OnErr result (Rose (K.faults sink.old) (K.faults sink.new)) }
     ensures never_falls { K.faults sink.old ≤ K.faults sink.new }
     ensures uncalled { bytes.now ≡ [] → sink.new ≡ sink.old }

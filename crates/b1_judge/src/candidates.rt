@@ -90,15 +90,18 @@ fn is_message_at<'a>(
     limit: Option<Key>,
 ) -> bool
     requires along { IsAlong walk.now facts.now }
-    requires message { message_with walk.now.wires walk.now.rec stamp.now.stamp stamp.now.origin ≡ Some message.now }
-    ensures { result ≡ (at is_message walk.now (key_at stamp.now index) && is_under (key_at stamp.now index) limit) }
+    requires message { message_with walk.now.wires walk.now.rec stamp.now.stamp stamp.now.origin
+        ≡ Some message.now }
+    ensures { result ≡ (at is_message walk.now (key_at stamp.now index)
+        && is_under (key_at stamp.now index) limit) }
 {
     is_in_reach(stamp, index, walk.last_key(), limit) && is_open(facts, walk, message, stamp, index)
 }
 
 /// Whether the key of a place is above one key, and under another.
 fn is_in_reach(stamp: &Stamp, index: usize, last: Option<Key>, limit: Option<Key>) -> bool
-    ensures { result ≡ (is_above (key_at stamp.now index) last && is_under (key_at stamp.now index) limit) }
+    ensures { result ≡ (is_above (key_at stamp.now index) last
+        && is_under (key_at stamp.now index) limit) }
 {
     let above = match last {
         Some(key) => is_above_key(stamp, index, key),
@@ -182,8 +185,10 @@ fn is_notice_at(
     limit: Option<Key>,
 ) -> bool
     requires index { index < length nodes.now }
-    requires nodes { nodes.now ≡ doomed walk.now.wires walk.now.rec stamp.now.stamp stamp.now.origin }
-    ensures { result ≡ (at is_notice walk.now (key_at stamp.now index) && is_under (key_at stamp.now index) limit) }
+    requires nodes { nodes.now
+        ≡ doomed walk.now.wires walk.now.rec stamp.now.stamp stamp.now.origin }
+    ensures { result ≡ (at is_notice walk.now (key_at stamp.now index)
+        && is_under (key_at stamp.now index) limit) }
 {
     is_in_reach(stamp, index, walk.last_key(), limit) && is_concerned(walk, nodes[index])
 }

@@ -34,7 +34,11 @@ pub(crate) fn is_resolved(command: &Command, before: &[Call], made: &Command) ->
 
 /// Whether a send is another one that begins after some calls, with its references resolved.
 fn is_resolved_send(send: &SendCmd, before: &[Call], made: &SendCmd) -> bool
-    ensures { IsTrue result ↔ (made.now ≡ record send.now { to = map (resolved_handle before.now) send.now.to; with = map (resolved_handle before.now) send.now.with }) }
+    ensures { IsTrue result ↔ (made.now
+        ≡ record send.now {
+          to = map (resolved_handle before.now) send.now.to;
+          with = map (resolved_handle before.now) send.now.with;
+        }) }
 {
     send.go_on == made.go_on
         && are_resolved(send.to.as_slice(), before, made.to.as_slice())

@@ -101,7 +101,8 @@ fn has_sent<'a>(
 ) -> Result<bool, AllocError>
     requires along { IsAlong walk.now facts.now }
     requires none { CarriesNone walk.now.rec walk.now.peer walk.now.call }
-    ensures { IfOk result (λ b. IsTrue b ↔ HasSent walk.now key.now number handles.now payload.now) }
+    ensures { IfOk result (λ b. IsTrue b
+        ↔ HasSent walk.now key.now number handles.now payload.now) }
 {
     let Some(message) = facts.message(key.stamp, key.origin) else {
         return Ok(false);
@@ -121,7 +122,8 @@ fn agrees(
     handles: &[u64],
     arrived: &[u64],
 ) -> bool
-    ensures { IsTrue result ↔ ((own ≡ Some number) × (payload.now ≡ sent.now) × (handles.now ≡ arrived.now)) }
+    ensures { IsTrue result ↔ ((own ≡ Some number) × (payload.now ≡ sent.now)
+        × (handles.now ≡ arrived.now)) }
 {
     own == Some(number) && payload == sent && handles == arrived
 }

@@ -38,7 +38,8 @@ impl Pace {
     ) -> Result<(), AllocError>
         requires ahead { self.old.call ≤ place }
         requires place { place < length calls.now }
-        ensures { OnOk result (Reaches (slots_by (kept_at messages.now) peer) calls.now (suc place) self.old self.new) }
+        ensures { OnOk result (Reaches (slots_by (kept_at messages.now) peer) calls.now
+            (suc place) self.old self.new) }
     {
         for call in &calls[self.call..place + 1] {
             self.standing
@@ -88,7 +89,9 @@ impl<'a> Gathering<'a> {
     /// Takes the next stamped call of the bus order. An error is want of memory.
     pub(crate) fn take(&mut self, stamp: &Stamp) -> Result<(), AllocError>
         requires peer { stamp.now.origin < length self.old.paces.items }
-        requires ahead { (pace : Paces) → slice_get self.old.paces.items stamp.now.origin ≡ Some pace → pace.call ≤ stamp.now.call }
+        requires ahead { (pace : Paces)
+            → slice_get self.old.paces.items stamp.now.origin ≡ Some pace
+            → pace.call ≤ stamp.now.call }
         requires call { stamp.now.call < length (calls_of self.old.rec.now stamp.now.origin) }
         ensures { OnOk result (Takes stamp.now self.old self.new) }
     {
@@ -167,7 +170,8 @@ fn message_by<'a>(
     peer: u32,
     call: &'a Call,
 ) -> Result<Option<Message<'a>>, AllocError>
-    ensures { IfOk result (λ m. m ≡ message_by peer standing.now.names standing.now.table call.now.command call.now.answer) }
+    ensures { IfOk result (λ m. m
+        ≡ message_by peer standing.now.names standing.now.table call.now.command call.now.answer) }
 {
     let (Command::Send(send), Answer::Sent(sent)) = (&call.command, &call.answer) else {
         return Ok(None);
@@ -184,7 +188,8 @@ fn doomed_by(
     peer: u32,
     call: &Call,
 ) -> Result<Option<Items<Option<NodeId>>>, AllocError>
-    ensures { IfOk result (λ nodes. nodes ≡ doomed_by peer pace.now.standing.names pace.now.standing.table (is_gone pace.now.gone) call.now.command call.now.answer) }
+    ensures { IfOk result (λ nodes. nodes
+        ≡ doomed_by peer pace.now.standing.names pace.now.standing.table (is_gone pace.now.gone) call.now.command call.now.answer) }
 {
     match &call.answer {
         Answer::Destroyed { .. } => {

@@ -31,7 +31,12 @@ impl<'a> Message<'a> {
         places: &'a Places,
         payload: &'a Bytes,
     ) -> Message<'a>
-        ensures { result ≡ record { to = to; carried = carried; places = places.now; payload = payload.now } }
+        ensures { result ≡ record {
+          to = to;
+          carried = carried;
+          places = places.now;
+          payload = payload.now;
+        } }
     {
         Message {
             to,

@@ -119,7 +119,8 @@ fn push_live(
     node: NodeId,
     gone: &BTreeSet<(u32, u64)>,
 ) -> Result<(), AllocError>
-    ensures { OnOk result (nodes.new.items ≡ nodes.old.items ++ (if is_gone gone.now node then [] else Some node ∷ [])) }
+    ensures { OnOk result (nodes.new.items ≡ nodes.old.items
+        ++ (if is_gone gone.now node then [] else Some node ∷ [])) }
 {
     if gone.contains(&(node.owner, node.serial)) {
         return Ok(());

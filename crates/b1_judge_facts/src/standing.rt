@@ -53,7 +53,8 @@ impl Standing {
         peer: u32,
         numbers: &[u64],
     ) -> Result<Items<Option<NodeId>>, AllocError>
-        ensures { IfOk result (λ nodes. nodes ≡ map (named peer self.now.names self.now.table) numbers.now) }
+        ensures { IfOk result (λ nodes. nodes
+            ≡ map (named peer self.now.names self.now.table) numbers.now) }
     {
         let mut nodes = Vec::with_capacity(alloc, numbers.len())?;
         for number in numbers {
@@ -78,7 +79,8 @@ pub(crate) fn carried_by(call: &Call) -> &[u64]
 
 /// What a call changes of its peer's table.
 fn change(table: &mut Table, call: &Call, slots: &[Option<NodeId>]) -> Result<(), AllocError>
-    ensures { OnOk result (table.new ≡ changed (λ _. slots.now) call.now.command call.now.answer table.old) }
+    ensures { OnOk result (table.new
+        ≡ changed (λ _. slots.now) call.now.command call.now.answer table.old) }
 {
     match (&call.command, &call.answer) {
         (_, Answer::Got(Receipt::Message { handles, .. })) => {

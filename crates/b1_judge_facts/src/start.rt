@@ -58,7 +58,8 @@ fn wired(alloc: Global, wires: &[Wire], peer: u32) -> Result<Names, AllocError>
 
 /// Adds the number of a wire, if it is from the peer and isn't known yet.
 fn name(names: &mut Names, wire: &Wire, peer: u32) -> Result<(), AllocError>
-    ensures { OnOk result (names.new ≡ (if wire.now.from == peer then with_name 0 wire.now.number names.old else names.old)) }
+    ensures { OnOk result (names.new
+        ≡ (if wire.now.from == peer then with_name 0 wire.now.number names.old else names.old)) }
 {
     if wire.from != peer {
         return Ok(());

@@ -46,7 +46,8 @@ impl<'a> Walk<'a> {
     /// Before the first call of a peer. An error is want of memory.
     pub fn start(alloc: Global, facts: &Facts<'a>, peer: u32) -> Result<Walk<'a>, AllocError>
         requires { peer < length facts.now.rec.peers }
-        ensures { IfOk result (λ walk. walk ≡ record { wires = facts.now.wires; rec = facts.now.rec; peer = peer; call = 0 }) }
+        ensures { IfOk result (λ walk. walk
+            ≡ record { wires = facts.now.wires; rec = facts.now.rec; peer = peer; call = 0 }) }
     {
         let Facts { opening, rec, .. } = facts;
         let mut all = begin(alloc, opening.wires.as_slice(), rec.peers.len())?;
@@ -207,7 +208,8 @@ impl<'a> Walk<'a> {
         requires wires { self.now.wires ≡ facts.now.wires }
         requires rec { self.now.rec ≡ facts.now.rec }
         requires none { CarriesNone self.now.rec self.now.peer self.now.call }
-        ensures { result ≡ notice_number self.now.peer (at made self.now) (at table self.now) (doomed_node self.now key.now) }
+        ensures { result ≡ notice_number self.now.peer (at made self.now) (at table self.now)
+            (doomed_node self.now key.now) }
     {
         let node = facts.doomed_at(key)?;
         if node.owner == self.peer {
@@ -229,7 +231,8 @@ impl<'a> Walk<'a> {
         requires wires { self.now.wires ≡ facts.now.wires }
         requires rec { self.now.rec ≡ facts.now.rec }
         requires none { CarriesNone self.now.rec self.now.peer self.now.call }
-        ensures { IfOk result (λ numbers. numbers ≡ arrived (is_late_at self.now key.now) self.now.peer (at made self.now) carried.now (at table self.now)) }
+        ensures { IfOk result (λ numbers. numbers
+            ≡ arrived (is_late_at self.now key.now) self.now.peer (at made self.now) carried.now (at table self.now)) }
     {
         let mut table = self.table(alloc)?;
         let mut numbers = Vec::with_capacity(alloc, carried.len())?;
@@ -253,7 +256,8 @@ impl<'a> Walk<'a> {
         requires wires { self.now.wires ≡ facts.now.wires }
         requires rec { self.now.rec ≡ facts.now.rec }
         requires none { CarriesNone self.now.rec self.now.peer self.now.call }
-        ensures { result ≡ arrives (is_late_at self.now key.now) self.now.peer (at made self.now) table.now node }
+        ensures { result ≡ arrives (is_late_at self.now key.now) self.now.peer
+            (at made self.now) table.now node }
     {
         match node {
             Some(node) => {

@@ -13,6 +13,7 @@ ghost use Rattle.b1_inv.specs.Sound.{IsSound};
 /// bounded, and each destroy notice that was received names a node.
 pub fn every_reached_state_is_sound()
     ensures opening { (o : Opening) → IsOpening o → IsSound o (opening_state o) }
-    ensures step { (o : Opening) (s : State) (p : ℕ) (c : Maybe Command) (t : State) → IsSound o s → Step o s p c t → IsSound o t }
+    ensures step { (o : Opening) (s : State) (p : ℕ) (c : Maybe Command) (t : State) → IsSound o s
+        → Step o s p c t → IsSound o t }
     ensures reached { (o : Opening) (s : State) → IsOpening o → Reached o s → IsSound o s }
 {}

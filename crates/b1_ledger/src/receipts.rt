@@ -13,19 +13,33 @@ ghost use Rattle.b1_ledger.specs.Growth.{RisesAt};
 
 /// Within an epoch of a peer the keys of its receipts rise strictly.
 pub fn receipts_rise()
-    ensures { (o : Opening) (r : Record) (p i k : ℕ) (b d : Call) (x y : Key) → Legal o r → i < k → slice_get (calls_of r p) i ≡ Some b → slice_get (calls_of r p) k ≡ Some d → got_key b.answer ≡ Some x → got_key d.answer ≡ Some y → epoch_at r p k ≡ epoch_at r p i → is_below x y ≡ true }
+    ensures { (o : Opening) (r : Record) (p i k : ℕ) (b d : Call) (x y : Key) → Legal o r → i < k
+        → slice_get (calls_of r p) i ≡ Some b → slice_get (calls_of r p) k ≡ Some d
+        → got_key b.answer ≡ Some x → got_key d.answer ≡ Some y → epoch_at r p k ≡ epoch_at r p i
+        → is_below x y ≡ true }
 {}
 
 /// A stamp and an origin name one call: no two calls of a peer have the same stamp.
 pub fn stamp_names_one_call()
-    ensures { (r : Record) (q i k stamp : ℕ) (b c : Call) → RisesAt r → slice_get (calls_of r q) i ≡ Some b → slice_get (calls_of r q) k ≡ Some c → stamp_of b.answer ≡ Some stamp → stamp_of c.answer ≡ Some stamp → i ≡ k }
+    ensures { (r : Record) (q i k stamp : ℕ) (b c : Call) → RisesAt r
+        → slice_get (calls_of r q) i ≡ Some b → slice_get (calls_of r q) k ≡ Some c
+        → stamp_of b.answer ≡ Some stamp → stamp_of c.answer ≡ Some stamp → i ≡ k }
 {}
 
 /// Each message and each notice has the stamp of a call of its origin.
 pub fn entries_come_from_calls()
-    ensures messages { (ws : List Wire) (r : Record) (stamp q : ℕ) (m : Message) → message ws r stamp q ≡ Some m → (i : ℕ) × (c : Call) × (slice_get (calls_of r q) i ≡ Some c) × (stamp_of c.answer ≡ Some stamp) }
-    ensures notices { (ws : List Wire) (r : Record) (key : Key) (x : Node) → doomed_at ws r key ≡ Some x → (i : ℕ) × (c : Call) × (slice_get (calls_of r key.origin) i ≡ Some c) × (stamp_of c.answer ≡ Some key.stamp) }
-    ensures candidates { (ws : List Wire) (r : Record) (p k : ℕ) (key : Key) → is_candidate ws r p k key ≡ true → (i : ℕ) × (c : Call) × (slice_get (calls_of r key.origin) i ≡ Some c) × (stamp_of c.answer ≡ Some key.stamp) }
+    ensures messages { (ws : List Wire) (r : Record) (stamp q : ℕ) (m : Message)
+        → message ws r stamp q ≡ Some m
+        → (i : ℕ) × (c : Call) × (slice_get (calls_of r q) i ≡ Some c)
+        × (stamp_of c.answer ≡ Some stamp) }
+    ensures notices { (ws : List Wire) (r : Record) (key : Key) (x : Node)
+        → doomed_at ws r key ≡ Some x
+        → (i : ℕ) × (c : Call) × (slice_get (calls_of r key.origin) i ≡ Some c)
+        × (stamp_of c.answer ≡ Some key.stamp) }
+    ensures candidates { (ws : List Wire) (r : Record) (p k : ℕ) (key : Key)
+        → is_candidate ws r p k key ≡ true
+        → (i : ℕ) × (c : Call) × (slice_get (calls_of r key.origin) i ≡ Some c)
+        × (stamp_of c.answer ≡ Some key.stamp) }
 {}
 
 /// The order of keys of a record is that of the queues.

@@ -33,7 +33,8 @@ pub fn order_of(alloc: Global, rec: &Record) -> Result<Stamps, AllocError>
 /// The stamped calls, peer after peer.
 fn gathered(alloc: Global, rec: &Record) -> Result<Vec<Stamp>, AllocError>
     requires { length rec.now.peers ≤ 2 ^ 32 }
-    ensures { IfOk result (λ stamps. stamps.items ≡ flat_map (λ p. stamps_from p 0 (calls_of rec.now p)) (peers_of rec.now)) }
+    ensures { IfOk result (λ stamps. stamps.items
+        ≡ flat_map (λ p. stamps_from p 0 (calls_of rec.now p)) (peers_of rec.now)) }
 {
     let mut stamps = Vec::new(alloc);
     for (origin, peer) in rec.peers.as_slice().iter().enumerate() {

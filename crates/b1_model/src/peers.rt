@@ -40,7 +40,8 @@ impl PeerSet {
     pub fn insert(&mut self, peer: u32)
         requires { peer < MOST_PEERS }
         ensures peers { self.new ≡ with_peer peer self.old }
-        ensures members { (q : ℕ) → list_any (λ p. p == q) self.new ≡ ((peer == q) || list_any (λ p. p == q) self.old) }
+        ensures members { (q : ℕ) → list_any (λ p. p == q) self.new
+            ≡ ((peer == q) || list_any (λ p. p == q) self.old) }
     {
         self.words[(peer / WORD) as usize] |= 1 << (peer % WORD);
     }

@@ -51,7 +51,8 @@ pub fn are_zero(counts: &[u64]) -> bool
 pub fn raise_in(counts: &mut Vec<u64>, peer: u32)
     requires within { peer < length counts.old.items }
     requires fits { slice_index counts.old.items peer < 2 ^ 63 }
-    ensures { counts.new.items ≡ slice_set counts.old.items peer (slice_index counts.old.items peer + 1) }
+    ensures { counts.new.items
+        ≡ slice_set counts.old.items peer (slice_index counts.old.items peer + 1) }
 {
     counts[peer as usize] += 1;
 }
@@ -60,7 +61,8 @@ pub fn raise_in(counts: &mut Vec<u64>, peer: u32)
 pub fn lower_in(counts: &mut Vec<u64>, peer: u32, k: u64)
     requires within { peer < length counts.old.items }
     requires enough { k ≤ slice_index counts.old.items peer }
-    ensures { counts.new.items ≡ slice_set counts.old.items peer (slice_index counts.old.items peer - k) }
+    ensures { counts.new.items
+        ≡ slice_set counts.old.items peer (slice_index counts.old.items peer - k) }
 {
     counts[peer as usize] -= k;
 }

@@ -36,7 +36,12 @@ impl Node {
     /// A live node with no reference, whose own notice wasn't taken. `counts` are as many zeros as there are peers.
     pub fn new(number: u64, peers: u32, counts: Vec<u64>) -> Self
         requires { counts.items ≡ replicate peers 0 }
-        ensures { result ≡ record { number = number; state = Live; counts = replicate peers 0; taken = false } }
+        ensures { result ≡ record {
+          number = number;
+          state = Live;
+          counts = replicate peers 0;
+          taken = false;
+        } }
     {
         Node {
             number,

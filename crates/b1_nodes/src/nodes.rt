@@ -64,7 +64,8 @@ pub fn lower_at(nodes: &mut Vec<Node>, serial: u32, holder: u32, k: u64) -> bool
     requires made { serial < length nodes.old.items }
     requires some { 1 ≤ k }
     requires enough { k ≤ count_of (node_in nodes.old.items serial) holder }
-    ensures unheld { result ≡ (is_live (node_in nodes.new.items serial).state && is_unheld (node_in nodes.new.items serial)) }
+    ensures unheld { result ≡ (is_live (node_in nodes.new.items serial).state
+        && is_unheld (node_in nodes.new.items serial)) }
     ensures nodes { nodes.new.items ≡ with_node serial (uncounted holder k) nodes.old.items }
     ensures kept { (peers : ℕ) → AreNodes peers nodes.old.items → AreNodes peers nodes.new.items }
     ensures capacity { vec_capacity nodes.new ≡ vec_capacity nodes.old }

@@ -28,7 +28,8 @@ pub fn holders_of(nodes: &[Node], peers: u32, serials: &[u32]) -> PeerSet
 // Whether a peer has a reference to one of the nodes.
 fn has_reference(nodes: &[Node], peer: u32, serials: &[u32]) -> bool
     requires { All (λ serial. serial < length nodes.now) serials.now }
-    ensures { result ≡ list_any (λ serial. nat_lt 0 (count_of (node_in nodes.now serial) peer)) serials.now }
+    ensures { result ≡ list_any (λ serial.
+        nat_lt 0 (count_of (node_in nodes.now serial) peer)) serials.now }
 {
     for serial in serials {
         if node_at(nodes, *serial).count(peer) > 0 {
@@ -54,7 +55,8 @@ pub fn doom_all(nodes: &mut Vec<Node>, serials: &[u32])
 /// Destroys each of the nodes with a stamp.
 pub fn destroy_all(nodes: &mut Vec<Node>, serials: &[u32], stamp: u64)
     requires { All (λ serial. serial < length nodes.old.items) serials.now }
-    ensures nodes { nodes.new.items ≡ with_nodes serials.now (in_state (Destroyed stamp)) nodes.old.items }
+    ensures nodes { nodes.new.items
+        ≡ with_nodes serials.now (in_state (Destroyed stamp)) nodes.old.items }
     ensures kept { (peers : ℕ) → AreNodes peers nodes.old.items → AreNodes peers nodes.new.items }
     ensures capacity { vec_capacity nodes.new ≡ vec_capacity nodes.old }
     ensures len { vec_len nodes.new ≡ vec_len nodes.old }

@@ -48,7 +48,8 @@ impl NodeTable {
     /// memory.
     pub fn make(alloc: Global, owner: u32, peers: u32) -> Result<NodeTable, AllocError>
         requires few { peers ≤ MOST_PEERS }
-        ensures { IfOk result (λ t. t ≡ record { owner = owner; peers = peers; nodes = []; late = []; spare = 0 }) }
+        ensures { IfOk result (λ t. t
+            ≡ record { owner = owner; peers = peers; nodes = []; late = []; spare = 0 }) }
     {
         Ok(NodeTable {
             owner,
@@ -78,7 +79,11 @@ impl NodeTable {
         requires few { length self.old.nodes < 2 ^ 32 - 1 }
         ensures serial { result ≡ length self.old.nodes }
         ensures found { serial_of number self.new.nodes ≡ Some result }
-        ensures created { self.new ≡ record self.old { nodes = with_made self.old.peers number self.old.nodes; spare = self.old.spare - 1 } }
+        ensures created { self.new
+            ≡ record self.old {
+              nodes = with_made self.old.peers number self.old.nodes;
+              spare = self.old.spare - 1;
+            } }
     {
         let serial = self.nodes.len() as u32;
         let Some(room) = self.rooms.pop() else {
@@ -164,8 +169,10 @@ impl NodeTable {
         requires made { serial < length self.old.nodes }
         requires some { 1 ≤ k }
         requires enough { k ≤ count_of (node_in self.old.nodes serial) holder }
-        ensures unheld { result ≡ (is_live (node_in self.new.nodes serial).state && is_unheld (node_in self.new.nodes serial)) }
-        ensures detached { self.new ≡ record self.old { nodes = with_node serial (uncounted holder k) self.old.nodes } }
+        ensures unheld { result ≡ (is_live (node_in self.new.nodes serial).state
+            && is_unheld (node_in self.new.nodes serial)) }
+        ensures detached { self.new
+            ≡ record self.old { nodes = with_node serial (uncounted holder k) self.old.nodes } }
     {
         lower_at(&mut self.nodes, serial, holder, k)
     }
@@ -176,7 +183,11 @@ impl NodeTable {
         requires live { AllMade (λ n. is_live n.state) self.old.nodes serials.now }
         requires distinct { AllPairs ◌≢◌ serials.now }
         ensures holders { result ≡ with_reference self.old.peers self.old.nodes serials.now }
-        ensures doomed { self.new ≡ record self.old { nodes = with_nodes serials.now (in_state Dying) self.old.nodes; late = [] } }
+        ensures doomed { self.new
+            ≡ record self.old {
+              nodes = with_nodes serials.now (in_state Dying) self.old.nodes;
+              late = [];
+            } }
     {
         let holders = holders_of(&self.nodes, self.peers, serials);
         doom_all(&mut self.nodes, serials);
@@ -196,7 +207,10 @@ impl NodeTable {
     pub fn stamped(&mut self, serials: &[u32], stamp: u64)
         requires dying { AllMade (λ n. is_dying n.state) self.old.nodes serials.now }
         requires none_late { self.old.late ≡ [] }
-        ensures { self.new ≡ record self.old { nodes = with_nodes serials.now (in_state (Destroyed stamp)) self.old.nodes } }
+        ensures { self.new ≡ record self.old {
+          nodes = with_nodes serials.now
+              (in_state (Destroyed stamp)) self.old.nodes;
+        } }
     {
         destroy_all(&mut self.nodes, serials, stamp);
     }

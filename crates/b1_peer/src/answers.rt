@@ -34,7 +34,8 @@ impl<Q: QueueKind, P: PoolKind> PeerState<Q, P> {
     /// by its form, or that it isn't held; it leaves all as it was.
     pub fn release(&mut self, number: u64) -> Result<Owed, Reason>
         ensures answer { result ≡ released self.old.part number }
-        ensures released { self.new ≡ record self.old { part = released_part self.old.part number } }
+        ensures released { self.new
+            ≡ record self.old { part = released_part self.old.part number } }
     {
         if number % 4 != 2 {
             return Err(Reason::Invalid);
@@ -50,8 +51,11 @@ impl<Q: QueueKind, P: PoolKind> PeerState<Q, P> {
 
     /// Gives a received slice back. An error is that none begins at the offset, and leaves all as it was.
     pub fn slice_release(&mut self, offset: u64) -> Result<(), Reason>
-        ensures answer { MatchResult result (λ _. is_received offset self.old.part.slices ≡ true) (λ r. (is_received offset self.old.part.slices ≡ false) × (r ≡ reason.Unknown offset)) }
-        ensures released { self.new ≡ record self.old { part = slice_released self.old.part offset } }
+        ensures answer { MatchResult result (λ _. is_received offset self.old.part.slices
+            ≡ true) (λ r. (is_received offset self.old.part.slices ≡ false)
+            × (r ≡ reason.Unknown offset)) }
+        ensures released { self.new
+            ≡ record self.old { part = slice_released self.old.part offset } }
     {
         if self.store.release(offset) {
             Ok(())
@@ -71,7 +75,11 @@ impl<Q: QueueKind, P: PoolKind> PeerState<Q, P> {
 
     /// The user, the pool's size, and the limits.
     pub fn query(&self) -> PeerSpec
-        ensures { result ≡ record { user = self.now.part.user; pool = self.now.part.pool; limits = self.now.part.limits } }
+        ensures { result ≡ record {
+          user = self.now.part.user;
+          pool = self.now.part.pool;
+          limits = self.now.part.limits;
+        } }
     {
         PeerSpec {
             user: self.mail.home(),

@@ -69,7 +69,10 @@ pub fn room_for_nodes<Q: QueueKind>(
 pub fn make_all(nodes: &mut NodeTable, numbers: &[u64])
     requires spare { length numbers.now ≤ nodes.old.spare }
     requires few { length nodes.old.nodes + length numbers.now < 2 ^ 32 }
-    ensures { nodes.new ≡ record nodes.old { nodes = all_made nodes.old.peers numbers.now nodes.old.nodes; spare = nodes.new.spare } }
+    ensures { nodes.new ≡ record nodes.old {
+      nodes = all_made nodes.old.peers numbers.now nodes.old.nodes;
+      spare = nodes.new.spare;
+    } }
 {
     let mut left = numbers;
     while let [number, rest @ ..] = left {
@@ -82,7 +85,11 @@ pub fn make_all(nodes: &mut NodeTable, numbers: &[u64])
 fn make_one(nodes: &mut NodeTable, number: u64)
     requires spare { 1 ≤ nodes.old.spare }
     requires few { length nodes.old.nodes + 1 < 2 ^ 32 }
-    ensures made { nodes.new ≡ record nodes.old { nodes = one_made nodes.old.peers number nodes.old.nodes; spare = nodes.new.spare } }
+    ensures made { nodes.new
+        ≡ record nodes.old {
+          nodes = one_made nodes.old.peers number nodes.old.nodes;
+          spare = nodes.new.spare;
+        } }
     ensures spare { nodes.old.spare ≤ nodes.new.spare + 1 }
     ensures len { length nodes.new.nodes ≤ length nodes.old.nodes + 1 }
 {

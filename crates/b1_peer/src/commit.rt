@@ -29,7 +29,8 @@ impl<Q: QueueKind, P: PoolKind> PeerState<Q, P> {
         requires peer { dest < self.old.part.peers }
         requires fits { count_of (node_at self.old.part serial) dest < 2 ^ 63 }
         ensures answer { result ≡ attach_answer self.old.part serial dest }
-        ensures attached { self.new ≡ record self.old { part = attached self.old.part serial dest } }
+        ensures attached { self.new
+            ≡ record self.old { part = attached self.old.part serial dest } }
     {
         let answer = self.nodes.attach(serial, dest);
         if let Attach::Counted = answer {
@@ -63,9 +64,15 @@ impl<Q: QueueKind, P: PoolKind> PeerState<Q, P> {
     pub fn commit(&mut self, origin: u32, index: u32, stamp: u64, slots: &[Slot]) -> bool
         requires stamp { IsClock stamp }
         requires slots { SlotsFit self.old.part (find_stage self.old.part origin index) slots.now }
-        requires new_key { CommitsAnew self.old.part (find_stage self.old.part origin index) (record { stamp = stamp; origin = origin; index = index }) }
+        requires new_key { CommitsAnew self.old.part (find_stage self.old.part origin index)
+            (record {
+              stamp = stamp;
+              origin = origin;
+              index = index;
+            }) }
         ensures there { result ≡ is_committed self.old.part origin index }
-        ensures committed { self.new ≡ record self.old { part = committed self.old.part origin index stamp slots.now } }
+        ensures committed { self.new
+            ≡ record self.old { part = committed self.old.part origin index stamp slots.now } }
     {
         self.mail.commit(origin, index, stamp, slots)
     }

@@ -25,8 +25,11 @@ impl<Q: QueueKind, P: PoolKind> PeerState<Q, P> {
         requires clock { IsClock self.old.part.clock }
         requires empty { doomed.old.items ≡ [] }
         requires room { length self.old.part.nodes ≤ vec_capacity doomed.old }
-        requires new_keys { StagesAnew self.old.part self.old.part.me (length (destroy_serials self.old.part numbers.now)) }
-        ensures event { destroy_by (destroy_refusal self.old.part numbers.now) (destroy_serials self.old.part numbers.now) self.old.part ≡ (out.BeginDestroy result doomed.new.items, self.new.part) }
+        requires new_keys { StagesAnew self.old.part self.old.part.me
+            (length (destroy_serials self.old.part numbers.now)) }
+        ensures event { destroy_by (destroy_refusal self.old.part numbers.now)
+            (destroy_serials self.old.part numbers.now) self.old.part
+            ≡ (out.BeginDestroy result doomed.new.items, self.new.part) }
         ensures rest { self.new ≡ record self.old { part = self.new.part } }
         ensures capacity { vec_capacity doomed.new ≡ vec_capacity doomed.old }
     {
@@ -42,8 +45,11 @@ impl<Q: QueueKind, P: PoolKind> PeerState<Q, P> {
         requires clock { IsClock self.old.part.clock }
         requires empty { doomed.old.items ≡ [] }
         requires room { length self.old.part.nodes ≤ vec_capacity doomed.old }
-        requires new_keys { StagesAnew self.old.part self.old.part.me (length (reset_serials self.old.part)) }
-        ensures event { destroy_by (overflow_reason self.old.part) (reset_serials self.old.part) self.old.part ≡ (out.BeginDestroy result doomed.new.items, self.new.part) }
+        requires new_keys { StagesAnew self.old.part self.old.part.me
+            (length (reset_serials self.old.part)) }
+        ensures event { destroy_by (overflow_reason self.old.part)
+            (reset_serials self.old.part) self.old.part
+            ≡ (out.BeginDestroy result doomed.new.items, self.new.part) }
         ensures rest { self.new ≡ record self.old { part = self.new.part } }
         ensures capacity { vec_capacity doomed.new ≡ vec_capacity doomed.old }
     {
@@ -61,7 +67,8 @@ impl<Q: QueueKind, P: PoolKind> PeerState<Q, P> {
         requires distinct { AllPairs ◌≢◌ doomed.now }
         requires new_keys { StagesAnew self.old.part self.old.part.me (length doomed.now) }
         ensures holders { result ≡ visit_set self.old.part doomed.now }
-        ensures doomed { self.new ≡ record self.old { part = doomed_part self.old.part doomed.now } }
+        ensures doomed { self.new
+            ≡ record self.old { part = doomed_part self.old.part doomed.now } }
     {
         let _few = self.nodes.len();
         stage_own(&mut self.mail, self.clock, self.me, doomed);
@@ -75,7 +82,8 @@ impl<Q: QueueKind, P: PoolKind> PeerState<Q, P> {
         requires distinct { AllPairs ◌≢◌ doomed.now }
         requires new_keys { VisitsAnew self.old.part origin doomed.now }
         ensures answer { result ≡ visit_answer self.old.part origin doomed.now }
-        ensures visited { self.new ≡ record self.old { part = visited self.old.part origin doomed.now } }
+        ensures visited { self.new
+            ≡ record self.old { part = visited self.old.part origin doomed.now } }
     {
         let staged = stage_foreign(
             &mut self.mail,
@@ -98,7 +106,8 @@ impl<Q: QueueKind, P: PoolKind> PeerState<Q, P> {
         requires distinct { AllPairs ◌≢◌ doomed.now }
         requires dying { AreDying self.old.part doomed.now }
         ensures answer { result ≡ doom_answer self.old.part collected }
-        ensures stamped { self.new ≡ record self.old { part = doom_stamped self.old.part collected doomed.now } }
+        ensures stamped { self.new
+            ≡ record self.old { part = doom_stamped self.old.part collected doomed.now } }
     {
         let late = self.nodes.late();
         if !late.is_empty() {

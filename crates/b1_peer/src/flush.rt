@@ -31,7 +31,10 @@ impl<Q: QueueKind, P: PoolKind> PeerState<Q, P> {
 fn empty_queue<Q: QueueKind>(mail: &mut Mailbox<Q>, dead: &mut DeadList)
     requires room { count is_message mail.old.queue ≤ dead.old.room }
     requires few { FewCarried mail.old.queue }
-    ensures mail { mail.new ≡ record mail.old { queue = []; spare = mail.old.spare + length mail.old.queue } }
+    ensures mail { mail.new ≡ record mail.old {
+      queue = [];
+      spare = mail.old.spare + length mail.old.queue;
+    } }
     ensures items { dead.new.items ≡ queued_items mail.old.queue dead.old.items }
     ensures room { dead.old.room ≤ dead.new.room + count is_message mail.old.queue }
 {

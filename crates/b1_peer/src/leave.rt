@@ -33,7 +33,8 @@ pub fn take_back<P: PoolKind>(
     ensures size { store.new.size ≡ store.old.size }
     ensures bytes { store.new.bytes ≡ store.old.bytes }
     ensures stored { IsStored store.new }
-    ensures handles { handles.new ≡ record handles.old { records = unexpected (foreign me (carried entry)) handles.old.records } }
+    ensures handles { handles.new
+        ≡ record handles.old { records = unexpected (foreign me (carried entry)) handles.old.records } }
 {
     match entry {
         Entry::Message { offset, with, .. } => {
@@ -62,7 +63,8 @@ pub fn drop_message<P: PoolKind>(
     ensures size { store.new.size ≡ store.old.size }
     ensures bytes { store.new.bytes ≡ store.old.bytes }
     ensures stored { IsStored store.new }
-    ensures handles { handles.new ≡ record handles.old { records = unexpected (foreign me (carried entry)) handles.old.records } }
+    ensures handles { handles.new
+        ≡ record handles.old { records = unexpected (foreign me (carried entry)) handles.old.records } }
     ensures items { dead.new.items ≡ with_item (references entry) dead.old.items }
     ensures room { dead.old.room ≤ dead.new.room + 1 }
 {
@@ -85,7 +87,10 @@ pub fn drop_message<P: PoolKind>(
 pub fn take_key<Q: QueueKind>(mail: &mut Mailbox<Q>) -> Key
     requires { 1 ≤ length mail.old.queue }
     ensures key { option_map (λ f. f.0) (slice_get mail.old.queue 0) ≡ Some result }
-    ensures mail { mail.new ≡ record mail.old { queue = drop 1 mail.old.queue; spare = mail.old.spare + 1 } }
+    ensures mail { mail.new ≡ record mail.old {
+      queue = drop 1 mail.old.queue;
+      spare = mail.old.spare + 1;
+    } }
 {
     match mail.take() {
         Some((key, _)) => key,

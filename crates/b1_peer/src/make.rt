@@ -36,9 +36,13 @@ impl<Q: QueueKind, P: PoolKind> PeerState<Q, P> {
     pub fn make(alloc: Global, me: u32, opening: &Opening) -> Result<Self, AllocError>
         requires opening { IsOpening opening.now }
         requires me { me < length opening.now.peers }
-        ensures part { IfOk result (λ p. IfSome (slice_get opening.now.peers me) (λ spec. p.part ≡ peer_before opening.now me spec)) }
+        ensures part { IfOk result (λ p.
+            IfSome (slice_get opening.now.peers me) (λ spec. p.part
+            ≡ peer_before opening.now me spec)) }
         ensures bytes { IfOk result (λ p. p.bytes ≡ replicate p.part.pool 0) }
-        ensures users { IfOk result (λ p. (user : ℕ) → list_any (λ u. u == user) p.users ≡ list_any (λ spec. spec.user == user) opening.now.peers) }
+        ensures users { IfOk result (λ p. (user : ℕ)
+            → list_any (λ u. u == user) p.users
+            ≡ list_any (λ spec. spec.user == user) opening.now.peers) }
     {
         let Some(spec) = opening.peers.get(me as usize) else {
             unreachable!()
@@ -66,7 +70,8 @@ impl<Q: QueueKind, P: PoolKind> PeerState<Q, P> {
     pub fn wire_name(&mut self, number: u64) -> Result<Option<NodeRef>, AllocError>
         requires few { length self.old.part.nodes < 2 ^ 32 - 1 }
         ensures node { IfOk result (λ node. node ≡ node_named self.new.part number) }
-        ensures made { OnOk result (self.new ≡ record self.old { part = wire_made number self.old.part }) }
+        ensures made { OnOk result (self.new
+            ≡ record self.old { part = wire_made number self.old.part }) }
     {
         if number % 4 == 0 {
             self.make_node(number)?;
@@ -78,7 +83,8 @@ impl<Q: QueueKind, P: PoolKind> PeerState<Q, P> {
     fn make_node(&mut self, number: u64) -> Result<(), AllocError>
         requires few { length self.old.part.nodes < 2 ^ 32 - 1 }
         requires own { is_own number ≡ true }
-        ensures { OnOk result (self.new ≡ record self.old { part = record self.old.part { nodes = with_made self.old.part.peers number self.old.part.nodes } }) }
+        ensures { OnOk result (self.new
+            ≡ record self.old { part = record self.old.part { nodes = with_made self.old.part.peers number self.old.part.nodes } }) }
     {
         if self.nodes.find(number).is_some() {
             return Ok(());
@@ -102,7 +108,12 @@ impl<Q: QueueKind, P: PoolKind> PeerState<Q, P> {
         requires live { is_live (node_at self.old.part serial).state ≡ true }
         requires unused { self.old.part.queue ≡ [] }
         requires fits { count_of (node_at self.old.part serial) to < 2 ^ 63 }
-        ensures { self.new ≡ record self.old { part = wire_counted (record { owner = self.old.part.me; serial = serial }) to self.old.part } }
+        ensures { self.new ≡ record self.old {
+          part = wire_counted (record {
+            owner = self.old.part.me;
+            serial = serial;
+          }) to self.old.part;
+        } }
     {
         self.nodes.attach(serial, to);
     }
@@ -115,7 +126,8 @@ impl<Q: QueueKind, P: PoolKind> PeerState<Q, P> {
         requires few { self.old.part.given < 2 ^ 60 }
         requires not_dead { (record_or_none node self.old.part.handles).dead ≡ false }
         requires fits { (record_or_none node self.old.part.handles).held < 2 ^ 63 }
-        ensures { OnOk result (self.new ≡ record self.old { part = with_wire_held node self.old.part }) }
+        ensures { OnOk result (self.new
+            ≡ record self.old { part = with_wire_held node self.old.part }) }
     {
         let most = self.nodes.len() as usize + 1;
         let Some(most) = most.checked_add(self.handles.len()) else {

@@ -50,10 +50,22 @@ pub fn stage_foreign<Q: QueueKind>(
 ) -> bool
     requires clock { clock < 2 ^ 63 }
     requires few { length doomed.now ≤ 2 ^ 32 }
-    requires new { NoticesAreNew clock owner 0 doomed.now (record { mail = mail.old; records = handles.old.records }) }
+    requires new { NoticesAreNew clock owner 0 doomed.now (record {
+      mail = mail.old;
+      records = handles.old.records;
+    }) }
     ensures staged { result ≡ any_needs owner doomed.now handles.old.records }
-    ensures mail { mail.new ≡ (all_notified clock owner 0 doomed.now (record { mail = mail.old; records = handles.old.records })).mail }
-    ensures handles { handles.new ≡ record handles.old { records = (all_notified clock owner 0 doomed.now (record { mail = mail.old; records = handles.old.records })).records } }
+    ensures mail { mail.new ≡ (all_notified clock owner 0 doomed.now (record {
+      mail = mail.old;
+      records = handles.old.records;
+    })).mail }
+    ensures handles { handles.new
+        ≡ record handles.old {
+          records = (all_notified clock owner 0 doomed.now (record {
+            mail = mail.old;
+            records = handles.old.records;
+          })).records;
+        } }
 {
     let mut staged = false;
     let mut index: u64 = 0;
@@ -81,9 +93,11 @@ fn stage_one<Q: QueueKind>(
     node: NodeRef,
 ) -> bool
     requires clock { clock < 2 ^ 63 }
-    requires new { needs_notice node handles.old.records ≡ true → (0 < mail.old.spare) × NewKey (notice_key clock node.owner index) mail.old.queue }
+    requires new { needs_notice node handles.old.records ≡ true
+        → (0 < mail.old.spare) × NewKey (notice_key clock node.owner index) mail.old.queue }
     ensures needed { result ≡ needs_notice node handles.old.records }
-    ensures notified { record { mail = mail.new; records = handles.new.records } ≡ notified clock index node (record { mail = mail.old; records = handles.old.records }) }
+    ensures notified { record { mail = mail.new; records = handles.new.records }
+        ≡ notified clock index node (record { mail = mail.old; records = handles.old.records }) }
     ensures given { handles.new.given ≡ handles.old.given }
 {
     let needed = handles.notify(node);

@@ -48,7 +48,8 @@ impl<Q: QueueKind, P: PoolKind> PeerState<Q, P> {
     fn discard_all(&mut self)
         ensures front { (received self.new.part).front ≡ (received self.old.part).front }
         ensures part { received_part self.new.part ≡ received_part self.old.part }
-        ensures removed { length self.old.part.queue ≡ length self.new.part.queue + (received self.old.part).removed }
+        ensures removed { length self.old.part.queue
+            ≡ length self.new.part.queue + (received self.old.part).removed }
         ensures settled { cleared self.new.part ≡ self.new.part }
         ensures still { StillReceived self.old.part self.new.part }
         ensures given { self.new.part.given ≡ self.old.part.given }
@@ -105,7 +106,12 @@ impl<Q: QueueKind, P: PoolKind> PeerState<Q, P> {
     /// Removes the destroy notice of another peer's node at the front: its record is dead.
     fn end_notice(&mut self, node: NodeRef)
         requires { kind_of self.old.part.queue ≡ kinds.Foreign node }
-        ensures { self.new ≡ record self.old { part = record self.old.part { queue = drop 1 self.old.part.queue; handles = changed node made_dead self.old.part.handles } } }
+        ensures { self.new ≡ record self.old {
+          part = record self.old.part {
+            queue = drop 1 self.old.part.queue;
+            handles = changed node made_dead self.old.part.handles;
+          };
+        } }
     {
         take_key(&mut self.mail);
         self.handles.mark_dead(node);
@@ -179,7 +185,10 @@ impl<Q: QueueKind, P: PoolKind> PeerState<Q, P> {
     fn take_own(&mut self, serial: u32) -> Receipt
         requires kind { kind_of self.old.part.queue ≡ kinds.Own serial }
         ensures answer { Ok result ≡ (front_taken self.old.part self.old.part.queue).0 }
-        ensures part { self.new ≡ record self.old { part = (front_taken self.old.part self.old.part.queue).1 } }
+        ensures part { self.new ≡ record self.old {
+          part =
+              (front_taken self.old.part self.old.part.queue).1;
+        } }
         ensures delivered { IsDelivered self.new.bytes (Ok result) }
     {
         let number = self.nodes.number(serial);
@@ -194,7 +203,10 @@ impl<Q: QueueKind, P: PoolKind> PeerState<Q, P> {
     fn take_foreign(&mut self, node: NodeRef) -> Receipt
         requires kind { kind_of self.old.part.queue ≡ kinds.Foreign node }
         ensures answer { Ok result ≡ (front_taken self.old.part self.old.part.queue).0 }
-        ensures part { self.new ≡ record self.old { part = (front_taken self.old.part self.old.part.queue).1 } }
+        ensures part { self.new ≡ record self.old {
+          part =
+              (front_taken self.old.part self.old.part.queue).1;
+        } }
         ensures delivered { IsDelivered self.new.bytes (Ok result) }
     {
         let number = self.handles.number_of(node).unwrap_or(INVALID);
@@ -209,7 +221,10 @@ impl<Q: QueueKind, P: PoolKind> PeerState<Q, P> {
     fn take_release(&mut self, serial: u32) -> Receipt
         requires kind { kind_of self.old.part.queue ≡ kinds.Release serial }
         ensures answer { Ok result ≡ (front_taken self.old.part self.old.part.queue).0 }
-        ensures part { self.new ≡ record self.old { part = (front_taken self.old.part self.old.part.queue).1 } }
+        ensures part { self.new ≡ record self.old {
+          part =
+              (front_taken self.old.part self.old.part.queue).1;
+        } }
         ensures delivered { IsDelivered self.new.bytes (Ok result) }
     {
         let number = self.nodes.number(serial);

@@ -22,7 +22,8 @@ pub fn make_room<Q: QueueKind, P: PoolKind>(
 ) -> Result<(), AllocError>
     requires { IsStored store.old }
     ensures more { MoreRoom mail.old mail.new store.old store.new dead.old dead.new numbers.old numbers.new }
-    ensures enough { OnOk result (Enough most (length mail.old.queue) mail.new store.new dead.new numbers.new) }
+    ensures enough { OnOk result (Enough most
+        (length mail.old.queue) mail.new store.new dead.new numbers.new) }
 {
     let queued = mail.len();
     let notices = most.checked_add(1).ok_or(AllocError)?;

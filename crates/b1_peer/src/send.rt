@@ -17,7 +17,8 @@ use b1_queue::QueueKind;
 impl<Q: QueueKind, P: PoolKind> PeerState<Q, P> {
     /// The first refusal of a SEND at its sender, want of memory aside. It takes no memory.
     pub fn may_send(&self, cmd: &SendCmd) -> Result<(), Reason>
-        ensures { MatchResult result (λ _. send_refusal self.now.part cmd.now ≡ None) (λ r. send_refusal self.now.part cmd.now ≡ Some r) }
+        ensures { MatchResult result (λ _. send_refusal self.now.part cmd.now
+            ≡ None) (λ r. send_refusal self.now.part cmd.now ≡ Some r) }
     {
         match self.send_refused(cmd) {
             None => Ok(()),
@@ -147,7 +148,8 @@ impl<Q: QueueKind, P: PoolKind> PeerState<Q, P> {
     /// Puts the nodes that numbers name behind others, in their order. There must be room for them.
     fn name_all(&self, numbers: &[u64], named: &mut Vec<NodeRef>)
         requires room { vec_len named.old + length numbers.now ≤ vec_capacity named.old }
-        ensures { named.new.items ≡ named.old.items ++ filter_map (node_named self.now.part) numbers.now }
+        ensures { named.new.items ≡ named.old.items
+            ++ filter_map (node_named self.now.part) numbers.now }
     {
         let mut left = numbers;
         while let [number, rest @ ..] = left {

@@ -72,7 +72,17 @@ fn copy_draft(
     payload: &[u8],
     with: &[NodeRef],
 ) -> Result<Draft, AllocError>
-    ensures { IfOk result (λ d. d ≡ record { origin = origin; user = user; index = index; serial = serial; with = with.now; slots = map (λ node. Unattached) with.now; handles = []; payload = payload.now }) }
+    ensures { IfOk result (λ d. d
+        ≡ record {
+          origin = origin;
+          user = user;
+          index = index;
+          serial = serial;
+          with = with.now;
+          slots = map (λ node. Unattached) with.now;
+          handles = [];
+          payload = payload.now;
+        }) }
 {
     Ok(Draft {
         origin,
@@ -135,7 +145,11 @@ impl<Q: QueueKind, P: PoolKind> PeerState<Q, P> {
         requires short { length payload.now ≤ MOST_PAYLOAD }
         requires few { length with.now ≤ MOST_HANDLES }
         requires unstaged { find_stage self.old.part origin index ≡ None }
-        requires new_key { NewKey (record { stamp = self.old.part.clock + 1; origin = origin; index = index }) self.old.part.queue }
+        requires new_key { NewKey (record {
+          stamp = self.old.part.clock + 1;
+          origin = origin;
+          index = index;
+        }) self.old.part.queue }
         ensures stages { Stages self.old.part origin user index serial payload.now with.now result self.new.part }
         ensures received { KeepsReceived self.old self.new }
         ensures users { self.new.users ≡ self.old.users }
@@ -159,8 +173,14 @@ impl<Q: QueueKind, P: PoolKind> PeerState<Q, P> {
         requires short { length payload.now ≤ MOST_PAYLOAD }
         requires few { length with.now ≤ MOST_HANDLES }
         requires unstaged { find_stage self.old.part draft.origin draft.index ≡ None }
-        requires new_key { NewKey (record { stamp = self.old.part.clock + 1; origin = draft.origin; index = draft.index }) self.old.part.queue }
-        requires accepted { stage_refusal self.old.part draft.user draft.serial (length payload.now) (length with.now) ≡ None }
+        requires new_key { NewKey (record {
+          stamp = self.old.part.clock + 1;
+          origin = draft.origin;
+          index = draft.index;
+        }) self.old.part.queue }
+        requires accepted { stage_refusal self.old.part draft.user draft.serial (length payload.now)
+            (length with.now)
+            ≡ None }
         requires payload_is { draft.payload ≡ payload.now }
         requires with_is { draft.with ≡ with.now }
         requires slots_are { draft.slots ≡ map (λ node. Unattached) with.now }

@@ -12,7 +12,8 @@ use std::alloc::AllocError;
 /// error is want of memory, and leaves all as it was.
 pub fn expect_all(handles: &mut HandleTable, me: u32, nodes: &[NodeRef]) -> Result<(), AllocError>
     requires { AreNeeded handles.old.records }
-    ensures expected { OnOk result (handles.new ≡ record handles.old { records = expected (foreign me nodes.now) handles.old.records }) }
+    ensures expected { OnOk result (handles.new
+        ≡ record handles.old { records = expected (foreign me nodes.now) handles.old.records }) }
     ensures unchanged { OnErr result (handles.new ≡ handles.old) }
     ensures needed { AreNeeded handles.new.records }
 {
@@ -34,7 +35,10 @@ pub fn expect_all(handles: &mut HandleTable, me: u32, nodes: &[NodeRef]) -> Resu
 /// each of them as it stands in the list. Records that aren't needed any more go.
 pub fn unexpect_all(handles: &mut HandleTable, me: u32, nodes: &[NodeRef])
     requires { AreCarried (foreign me nodes.now) handles.old.records }
-    ensures { handles.new ≡ record handles.old { records = unexpected (foreign me nodes.now) handles.old.records } }
+    ensures { handles.new ≡ record handles.old {
+      records = unexpected
+          (foreign me nodes.now) handles.old.records;
+    } }
 {
     let mut left = nodes;
     while let [node, rest @ ..] = left {

@@ -11,7 +11,8 @@ use b1_peer_dead::DeadList;
 pub fn give_up_all(handles: &mut HandleTable, dead: &mut DeadList)
     requires { length handles.old.records ≤ dead.old.room }
     ensures handles { handles.new ≡ record handles.old { records = [] } }
-    ensures items { dead.new.items ≡ dead.old.items ++ held_items handles.old.given handles.old.records }
+    ensures items { dead.new.items ≡ dead.old.items
+        ++ held_items handles.old.given handles.old.records }
     ensures room { dead.new.room + length dead.new.items ≡ dead.old.room + length dead.old.items }
     ensures lent { dead.new.lent ≡ dead.old.lent }
 {

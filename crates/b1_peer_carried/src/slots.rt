@@ -33,11 +33,14 @@ pub fn arrive(
     requires room_numbers { length carried.now ≤ vec_capacity numbers.old }
     requires room_refs { length carried.now ≤ vec_capacity refs.old }
     requires few { length carried.now ≤ MOST_HANDLES }
-    requires may_arrive { All (λ one. may_arrive me (length nodes.now.nodes) one ≡ true) (zip carried.now slots.now) }
+    requires may_arrive { All (λ one. may_arrive me (length nodes.now.nodes) one
+        ≡ true) (zip carried.now slots.now) }
     requires carried { AreCarried (foreign me carried.now) handles.old.records }
     requires fits { All (λ h. h.held < 2 ^ 62) handles.old.records }
     requires numbered { handles.old.given + length carried.now < 2 ^ 60 }
-    ensures arrived { (x : PeerPart) → HasTables me nodes.now.nodes handles.old x → slots_arrived x carried.now slots.now ≡ arriving x handles.new numbers.new.items refs.new.items }
+    ensures arrived { (x : PeerPart) → HasTables me nodes.now.nodes handles.old x
+        → slots_arrived x carried.now slots.now
+        ≡ arriving x handles.new numbers.new.items refs.new.items }
     ensures capacity_numbers { vec_capacity numbers.old ≤ vec_capacity numbers.new }
     ensures capacity_refs { vec_capacity refs.old ≤ vec_capacity refs.new }
 {
@@ -66,9 +69,14 @@ fn arrive_one(
     requires carried { AreCarried (foreign me (node ∷ [])) handles.old.records }
     requires fits { (record_or_none node handles.old.records).held < 2 ^ 63 }
     requires numbered { handles.old.given < 2 ^ 60 }
-    ensures arrived { (x : PeerPart) → x.me ≡ me → x.nodes ≡ nodes.now.nodes → slot_arrives (arriving x handles.old numbers.old.items refs.old.items) (node, slot) ≡ arriving x handles.new numbers.new.items refs.new.items }
-    ensures carried { (rest : List NodeRef) → AreCarried (foreign me (node ∷ rest)) handles.old.records → AreCarried (foreign me rest) handles.new.records }
-    ensures held { (most : ℕ) → All (λ h. h.held < most) handles.old.records → All (λ h. h.held < most + 1) handles.new.records }
+    ensures arrived { (x : PeerPart) → x.me ≡ me → x.nodes ≡ nodes.now.nodes
+        → slot_arrives (arriving x handles.old numbers.old.items refs.old.items) (node, slot)
+        ≡ arriving x handles.new numbers.new.items refs.new.items }
+    ensures carried { (rest : List NodeRef)
+        → AreCarried (foreign me (node ∷ rest)) handles.old.records
+        → AreCarried (foreign me rest) handles.new.records }
+    ensures held { (most : ℕ) → All (λ h. h.held < most) handles.old.records
+        → All (λ h. h.held < most + 1) handles.new.records }
     ensures given { handles.new.given ≤ handles.old.given + 1 }
     ensures len_numbers { vec_len numbers.new ≡ vec_len numbers.old + 1 }
     ensures len_refs { vec_len refs.new ≤ vec_len refs.old + 1 }
@@ -87,9 +95,13 @@ fn arrive_one(
 fn leave(handles: &mut HandleTable, me: u32, node: NodeRef) -> u64
     requires { AreCarried (foreign me (node ∷ [])) handles.old.records }
     ensures number { result ≡ invalid }
-    ensures carried { (rest : List NodeRef) → AreCarried (foreign me (node ∷ rest)) handles.old.records → AreCarried (foreign me rest) handles.new.records }
-    ensures held { (most : ℕ) → All (λ h. h.held < most) handles.old.records → All (λ h. h.held < most) handles.new.records }
-    ensures left { handles.new ≡ record handles.old { records = unexpected (foreign me (node ∷ [])) handles.old.records } }
+    ensures carried { (rest : List NodeRef)
+        → AreCarried (foreign me (node ∷ rest)) handles.old.records
+        → AreCarried (foreign me rest) handles.new.records }
+    ensures held { (most : ℕ) → All (λ h. h.held < most) handles.old.records
+        → All (λ h. h.held < most) handles.new.records }
+    ensures left { handles.new
+        ≡ record handles.old { records = unexpected (foreign me (node ∷ [])) handles.old.records } }
 {
     if node.owner != me {
         handles.unexpect(node);
@@ -100,7 +112,8 @@ fn leave(handles: &mut HandleTable, me: u32, node: NodeRef) -> u64
 /// An own node's number; none where its notice was taken.
 fn own_number(nodes: &NodeTable, serial: u32) -> u64
     requires { serial < length nodes.now.nodes }
-    ensures { result ≡ (if (node_in nodes.now.nodes serial).taken then invalid else (node_in nodes.now.nodes serial).number) }
+    ensures { result ≡ (if (node_in nodes.now.nodes serial).taken then invalid
+        else (node_in nodes.now.nodes serial).number) }
 {
     if nodes.notice_taken(serial) {
         INVALID
@@ -115,9 +128,13 @@ fn arrive_reference(handles: &mut HandleTable, node: NodeRef, refs: &mut Vec<(No
     requires carried { 0 < (record_or_none node handles.old.records).flight }
     requires fits { (record_or_none node handles.old.records).held < 2 ^ 63 }
     requires numbered { handles.old.given < 2 ^ 60 }
-    ensures arrived { (x : PeerPart) → (numbers : List ℕ) → reference_arrives (arriving x handles.old numbers refs.old.items) node ≡ arriving x handles.new (numbers ++ result ∷ []) refs.new.items }
-    ensures carried { (nodes : List NodeRef) → AreCarried (node ∷ nodes) handles.old.records → AreCarried nodes handles.new.records }
-    ensures held { (most : ℕ) → All (λ h. h.held < most) handles.old.records → All (λ h. h.held < most + 1) handles.new.records }
+    ensures arrived { (x : PeerPart) → (numbers : List ℕ)
+        → reference_arrives (arriving x handles.old numbers refs.old.items) node
+        ≡ arriving x handles.new (numbers ++ result ∷ []) refs.new.items }
+    ensures carried { (nodes : List NodeRef) → AreCarried (node ∷ nodes) handles.old.records
+        → AreCarried nodes handles.new.records }
+    ensures held { (most : ℕ) → All (λ h. h.held < most) handles.old.records
+        → All (λ h. h.held < most + 1) handles.new.records }
     ensures given { handles.new.given ≤ handles.old.given + 1 }
     ensures len { vec_len refs.new ≤ vec_len refs.old + 1 }
     ensures capacity { vec_capacity refs.old ≤ vec_capacity refs.new }

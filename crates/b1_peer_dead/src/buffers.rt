@@ -42,7 +42,8 @@ pub fn put_last<T: Drop>(list: &mut Vec<T>, value: T)
 /// Puts the references that slots have behind the others of a list that has room for them.
 pub fn gather(item: &mut Vec<(NodeRef, u64)>, with: &[NodeRef], slots: &[Slot])
     requires { vec_len item.old + length with.now ≤ vec_capacity item.old }
-    ensures items { item.new.items ≡ item.old.items ++ filter_map reference_of (zip with.now slots.now) }
+    ensures items { item.new.items ≡ item.old.items
+        ++ filter_map reference_of (zip with.now slots.now) }
     ensures capacity { vec_capacity item.old ≤ vec_capacity item.new }
 {
     let mut nodes = with;

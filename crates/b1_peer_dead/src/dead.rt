@@ -78,7 +78,10 @@ impl DeadList {
         requires { 1 ≤ self.old.room }
         ensures empty { result.items ≡ [] }
         ensures capacity { MOST_HANDLES ≤ vec_capacity result }
-        ensures lent { self.new ≡ record self.old { room = self.old.room - 1; lent = self.old.lent + 1 } }
+        ensures lent { self.new ≡ record self.old {
+          room = self.old.room - 1;
+          lent = self.old.lent + 1;
+        } }
     {
         let Some(buffer) = self.buffers.pop() else {
             unreachable!()
@@ -93,7 +96,8 @@ impl DeadList {
         requires lent { 1 ≤ self.old.lent }
         requires capacity { MOST_HANDLES ≤ vec_capacity item }
         ensures items { self.new.items ≡ with_item item.items self.old.items }
-        ensures room { self.new.room + length self.new.items ≡ self.old.room + length self.old.items + 1 }
+        ensures room { self.new.room + length self.new.items
+            ≡ self.old.room + length self.old.items + 1 }
         ensures lent { self.new.lent ≡ self.old.lent - 1 }
     {
         self.lent -= 1;
@@ -109,8 +113,10 @@ impl DeadList {
     pub fn add_references(&mut self, with: &[NodeRef], slots: &[Slot])
         requires room { 1 ≤ self.old.room }
         requires few { length with.now ≤ MOST_HANDLES }
-        ensures items { self.new.items ≡ with_item (filter_map reference_of (zip with.now slots.now)) self.old.items }
-        ensures room { self.new.room + length self.new.items ≡ self.old.room + length self.old.items }
+        ensures items { self.new.items
+            ≡ with_item (filter_map reference_of (zip with.now slots.now)) self.old.items }
+        ensures room { self.new.room + length self.new.items
+            ≡ self.old.room + length self.old.items }
         ensures lent { self.new.lent ≡ self.old.lent }
     {
         let mut item = self.buffer();
@@ -121,7 +127,10 @@ impl DeadList {
     /// Puts an item with one node and how often it was held behind the others. There must be room.
     pub fn add_held(&mut self, node: NodeRef, amount: u64)
         requires { 1 ≤ self.old.room }
-        ensures { self.new ≡ record self.old { items = self.old.items ++ ((node, amount) ∷ []) ∷ []; room = self.old.room - 1 } }
+        ensures { self.new ≡ record self.old {
+          items = self.old.items ++ ((node, amount) ∷ []) ∷ [];
+          room = self.old.room - 1;
+        } }
     {
         let mut item = self.buffer();
         put_last(&mut item, (node, amount));

@@ -20,10 +20,18 @@ pub(crate) fn put_message<P: PoolKind>(pool: &mut P, payload: &[u8], handles: u3
     requires spare { 1 ≤ P.spare pool.old }
     requires payload { length payload.now ≤ MOST_PAYLOAD }
     requires handles { handles ≤ MOST_HANDLES }
-    requires fits { full_reason (all_in_words (P.slices pool.old)) (length payload.now) handles ≡ None }
-    ensures offset { result ≡ taken_offset (slice_len (length payload.now) handles) (all_in_words (P.slices pool.old)) }
-    ensures slices { all_in_words (P.slices pool.new) ≡ taken (slice_len (length payload.now) handles) (all_in_words (P.slices pool.old)) }
-    ensures taken { slice_at result (all_in_words (P.slices pool.new)) ≡ Some (record { offset = result; len = slice_len (length payload.now) handles; usage = Unpublished }) }
+    requires fits { full_reason (all_in_words (P.slices pool.old)) (length payload.now) handles
+        ≡ None }
+    ensures offset { result ≡ taken_offset (slice_len (length payload.now) handles)
+        (all_in_words (P.slices pool.old)) }
+    ensures slices { all_in_words (P.slices pool.new)
+        ≡ taken (slice_len (length payload.now) handles) (all_in_words (P.slices pool.old)) }
+    ensures taken { slice_at result (all_in_words (P.slices pool.new))
+        ≡ Some (record {
+          offset = result;
+          len = slice_len (length payload.now) handles;
+          usage = Unpublished;
+        }) }
     ensures bytes { P.content pool.new ≡ written result (padded payload.now) (P.content pool.old) }
     ensures spare { P.spare pool.old ≤ P.spare pool.new + 1 }
     ensures sound { Covers (length (P.content pool.new)) (P.slices pool.new) }
@@ -40,9 +48,11 @@ pub(crate) fn put_message<P: PoolKind>(pool: &mut P, payload: &[u8], handles: u3
 pub(crate) fn put_numbers<P: PoolKind>(pool: &mut P, offset: u32, at: u32, numbers: &[u64])
     requires sound { IsPool (length (P.content pool.old)) (all_in_words (P.slices pool.old)) }
     requires queued { IsTrue (is_queued offset (all_in_words (P.slices pool.old))) }
-    requires within { at + 8 * length numbers.now ≤ len_at offset (all_in_words (P.slices pool.old)) }
+    requires within { at + 8 * length numbers.now
+        ≤ len_at offset (all_in_words (P.slices pool.old)) }
     ensures slices { P.slices pool.new ≡ P.slices pool.old }
-    ensures bytes { P.content pool.new ≡ written (offset + at) (number_bytes numbers.now) (P.content pool.old) }
+    ensures bytes { P.content pool.new
+        ≡ written (offset + at) (number_bytes numbers.now) (P.content pool.old) }
     ensures spare { P.spare pool.new ≡ P.spare pool.old }
 {
     let mut place = at;

@@ -93,10 +93,17 @@ impl<P: PoolKind> Store<P> {
         requires payload { length payload.now ≤ MOST_PAYLOAD }
         requires handles { handles ≤ MOST_HANDLES }
         requires fits { full_reason self.old.slices (length payload.now) handles ≡ None }
-        ensures offset { result ≡ taken_offset (slice_len (length payload.now) handles) self.old.slices }
+        ensures offset { result ≡ taken_offset
+            (slice_len (length payload.now) handles) self.old.slices }
         ensures size { self.new.size ≡ self.old.size }
-        ensures slices { self.new.slices ≡ taken (slice_len (length payload.now) handles) self.old.slices }
-        ensures taken { slice_at result self.new.slices ≡ Some (record { offset = result; len = slice_len (length payload.now) handles; usage = Unpublished }) }
+        ensures slices { self.new.slices
+            ≡ taken (slice_len (length payload.now) handles) self.old.slices }
+        ensures taken { slice_at result self.new.slices
+            ≡ Some (record {
+              offset = result;
+              len = slice_len (length payload.now) handles;
+              usage = Unpublished;
+            }) }
         ensures bytes { self.new.bytes ≡ written result (padded payload.now) self.old.bytes }
         ensures holds { Holds result self.new.bytes (padded payload.now) }
         ensures others { SameElsewhere result self.old.slices self.old.bytes self.new.bytes }
@@ -125,7 +132,8 @@ impl<P: PoolKind> Store<P> {
         requires within { at + 8 * length numbers.now ≤ len_at offset self.old.slices }
         ensures size { self.new.size ≡ self.old.size }
         ensures slices { self.new.slices ≡ published offset self.old.slices }
-        ensures bytes { self.new.bytes ≡ written (offset + at) (number_bytes numbers.now) self.old.bytes }
+        ensures bytes { self.new.bytes
+            ≡ written (offset + at) (number_bytes numbers.now) self.old.bytes }
         ensures holds { Holds (offset + at) self.new.bytes (number_bytes numbers.now) }
         ensures others { SameElsewhere offset self.old.slices self.old.bytes self.new.bytes }
         ensures spare { self.new.spare ≡ self.old.spare }
@@ -140,7 +148,9 @@ impl<P: PoolKind> Store<P> {
     pub fn release(&mut self, offset: u64) -> bool
         ensures found { result ≡ is_received offset self.old.slices }
         ensures size { self.new.size ≡ self.old.size }
-        ensures slices { self.new.slices ≡ (if is_received offset self.old.slices then given_back offset self.old.slices else self.old.slices) }
+        ensures slices { self.new.slices
+            ≡ (if is_received offset self.old.slices then given_back offset self.old.slices
+            else self.old.slices) }
         ensures bytes { self.new.bytes ≡ self.old.bytes }
         ensures spare { self.old.spare ≤ self.new.spare }
         ensures sound { IsStored self.new }

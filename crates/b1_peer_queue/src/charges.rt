@@ -22,7 +22,9 @@ fn begin_charge(quota: &mut Quota, entry: &Entry)
     ensures limits { quota.new.limits ≡ quota.old.limits }
     ensures home { quota.new.home ≡ quota.old.home }
     ensures users { users_of quota.new.accounts ≡ users_of quota.old.accounts }
-    ensures charges { (what : Quantities) (passes : ℕ → Bool) → charged_to what passes quota.new.accounts ≡ charged_to what passes quota.old.accounts + weight what passes entry.now }
+    ensures charges { (what : Quantities) (passes : ℕ → Bool)
+        → charged_to what passes quota.new.accounts
+        ≡ charged_to what passes quota.old.accounts + weight what passes entry.now }
 {
     let Some((user, charge)) = charge_of(entry) else {
         return;
@@ -40,7 +42,9 @@ fn end_charge(quota: &mut Quota, entry: &Entry)
     ensures limits { quota.new.limits ≡ quota.old.limits }
     ensures home { quota.new.home ≡ quota.old.home }
     ensures users { users_of quota.new.accounts ≡ users_of quota.old.accounts }
-    ensures charges { (what : Quantities) (passes : ℕ → Bool) → charged_to what passes quota.new.accounts + weight what passes entry.now ≡ charged_to what passes quota.old.accounts }
+    ensures charges { (what : Quantities) (passes : ℕ → Bool)
+        → charged_to what passes quota.new.accounts + weight what passes entry.now
+        ≡ charged_to what passes quota.old.accounts }
 {
     let Some((user, charge)) = charge_of(entry) else {
         return;
@@ -82,7 +86,8 @@ pub fn take_wanted_from<Q: QueueKind>(
     ensures users { users_of quota.new.accounts ≡ users_of quota.old.accounts }
     ensures found { result ≡ find (passes wanted) shelf.old.queue }
     ensures queue { shelf.new.queue ≡ without (passes wanted) shelf.old.queue }
-    ensures spare { shelf.new.spare ≡ (if is_some result then shelf.old.spare + 1 else shelf.old.spare) }
+    ensures spare { shelf.new.spare
+        ≡ (if is_some result then shelf.old.spare + 1 else shelf.old.spare) }
 {
     let (key, entry) = shelf.take_wanted(wanted)?;
     end_charge(quota, &entry);
@@ -101,7 +106,8 @@ pub fn take_front_from<Q: QueueKind>(
     ensures users { users_of quota.new.accounts ≡ users_of quota.old.accounts }
     ensures front { result ≡ slice_get shelf.old.queue 0 }
     ensures queue { shelf.new.queue ≡ drop 1 shelf.old.queue }
-    ensures spare { shelf.new.spare ≡ (if is_some result then shelf.old.spare + 1 else shelf.old.spare) }
+    ensures spare { shelf.new.spare
+        ≡ (if is_some result then shelf.old.spare + 1 else shelf.old.spare) }
 {
     let (key, entry) = shelf.take()?;
     end_charge(quota, &entry);
@@ -117,7 +123,9 @@ pub fn withdraw_from<Q: QueueKind>(shelf: &mut Shelf<Q>, quota: &mut Quota, seri
     ensures home { quota.new.home ≡ quota.old.home }
     ensures users { users_of quota.new.accounts ≡ users_of quota.old.accounts }
     ensures queue { shelf.new.queue ≡ without (is_release_notice serial) shelf.old.queue }
-    ensures spare { shelf.new.spare ≡ (if is_some (find (is_release_notice serial) shelf.old.queue) then shelf.old.spare + 1 else shelf.old.spare) }
+    ensures spare { shelf.new.spare
+        ≡ (if is_some (find (is_release_notice serial) shelf.old.queue) then shelf.old.spare + 1
+        else shelf.old.spare) }
 {
     take_wanted_from(shelf, quota, Wanted::Release { serial });
 }

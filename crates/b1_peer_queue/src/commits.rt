@@ -20,10 +20,14 @@ use b1_queue::QueueKind;
 
 /// Gives the entry at a place another key.
 fn restamp_in<Q: QueueKind>(rows: &mut Rows<Q>, key: Key, place: usize, new: Key)
-    requires tied { IsTied rows.old.spare rows.old.len (Q.spare rows.old.queue) (Q.room rows.old.queue) (Q.listed rows.old.queue) rows.old.entries (vec_capacity rows.old.marks) rows.old.marks.items }
+    requires tied { IsTied rows.old.spare rows.old.len (Q.spare rows.old.queue)
+        (Q.room rows.old.queue) (Q.listed rows.old.queue) rows.old.entries
+        (vec_capacity rows.old.marks) rows.old.marks.items }
     requires there { Has (Q.listed rows.old.queue) (key, place) }
     requires new_key { NewKey new (shown rows.old.entries.slots (Q.listed rows.old.queue)) }
-    ensures tied { IsTied rows.new.spare rows.new.len (Q.spare rows.new.queue) (Q.room rows.new.queue) (Q.listed rows.new.queue) rows.new.entries (vec_capacity rows.new.marks) rows.new.marks.items }
+    ensures tied { IsTied rows.new.spare rows.new.len (Q.spare rows.new.queue)
+        (Q.room rows.new.queue) (Q.listed rows.new.queue) rows.new.entries
+        (vec_capacity rows.new.marks) rows.new.marks.items }
     ensures listed { Q.listed rows.new.queue ≡ restamped place new (Q.listed rows.old.queue) }
     ensures slots { rows.new.entries.slots ≡ rows.old.entries.slots }
     ensures spare { rows.new.spare ≡ rows.old.spare }
@@ -36,13 +40,19 @@ fn restamp_in<Q: QueueKind>(rows: &mut Rows<Q>, key: Key, place: usize, new: Key
 
 /// Gives the message at a place its slots.
 fn set_slots_at<Q: QueueKind>(rows: &mut Rows<Q>, key: Key, place: usize, slots: &[Slot])
-    requires tied { IsTied rows.old.spare rows.old.len (Q.spare rows.old.queue) (Q.room rows.old.queue) (Q.listed rows.old.queue) rows.old.entries (vec_capacity rows.old.marks) rows.old.marks.items }
+    requires tied { IsTied rows.old.spare rows.old.len (Q.spare rows.old.queue)
+        (Q.room rows.old.queue) (Q.listed rows.old.queue) rows.old.entries
+        (vec_capacity rows.old.marks) rows.old.marks.items }
     requires there { Has (Q.listed rows.old.queue) (key, place) }
     requires fits { HasSlots (length slots.now) (row rows.old.entries.slots (key, place)).1 }
-    ensures tied { IsTied rows.new.spare rows.new.len (Q.spare rows.new.queue) (Q.room rows.new.queue) (Q.listed rows.new.queue) rows.new.entries (vec_capacity rows.new.marks) rows.new.marks.items }
+    ensures tied { IsTied rows.new.spare rows.new.len (Q.spare rows.new.queue)
+        (Q.room rows.new.queue) (Q.listed rows.new.queue) rows.new.entries
+        (vec_capacity rows.new.marks) rows.new.marks.items }
     ensures listed { Q.listed rows.new.queue ≡ Q.listed rows.old.queue }
-    ensures here { row rows.new.entries.slots (key, place) ≡ (key, with_slots slots.now (row rows.old.entries.slots (key, place)).1) }
-    ensures others { (other : ℕ) → other ≢ place → entry_at rows.new.entries.slots other ≡ entry_at rows.old.entries.slots other }
+    ensures here { row rows.new.entries.slots (key, place)
+        ≡ (key, with_slots slots.now (row rows.old.entries.slots (key, place)).1) }
+    ensures others { (other : ℕ) → other ≢ place
+        → entry_at rows.new.entries.slots other ≡ entry_at rows.old.entries.slots other }
     ensures spare { rows.new.spare ≡ rows.old.spare }
 {
     if let Some(entry) = rows.entries.get_mut(place) {
@@ -58,13 +68,29 @@ pub fn commit_in<Q: QueueKind>(
     stamp: u64,
     slots: &[Slot],
 ) -> bool
-    requires tied { IsTied rows.old.spare rows.old.len (Q.spare rows.old.queue) (Q.room rows.old.queue) (Q.listed rows.old.queue) rows.old.entries (vec_capacity rows.old.marks) rows.old.marks.items }
-    requires one { count (is_stage origin index) (shown rows.old.entries.slots (Q.listed rows.old.queue)) ≤ 1 }
-    requires fits { IfSome (find (is_stage origin index) (shown rows.old.entries.slots (Q.listed rows.old.queue))) (λ f. HasSlots (length slots.now) f.1) }
-    requires new_key { IfSome (find (is_stage origin index) (shown rows.old.entries.slots (Q.listed rows.old.queue))) (λ f. NewKey (record { stamp = stamp; origin = origin; index = index }) (shown rows.old.entries.slots (Q.listed rows.old.queue))) }
-    ensures tied { IsTied rows.new.spare rows.new.len (Q.spare rows.new.queue) (Q.room rows.new.queue) (Q.listed rows.new.queue) rows.new.entries (vec_capacity rows.new.marks) rows.new.marks.items }
-    ensures found { result ≡ is_some (find (is_stage origin index) (shown rows.old.entries.slots (Q.listed rows.old.queue))) }
-    ensures shows { shown rows.new.entries.slots (Q.listed rows.new.queue) ≡ committed_queue (find (is_stage origin index) (shown rows.old.entries.slots (Q.listed rows.old.queue))) origin index stamp slots.now (shown rows.old.entries.slots (Q.listed rows.old.queue)) }
+    requires tied { IsTied rows.old.spare rows.old.len (Q.spare rows.old.queue)
+        (Q.room rows.old.queue) (Q.listed rows.old.queue) rows.old.entries
+        (vec_capacity rows.old.marks) rows.old.marks.items }
+    requires one { count (is_stage origin index)
+        (shown rows.old.entries.slots (Q.listed rows.old.queue))
+        ≤ 1 }
+    requires fits { IfSome (find (is_stage origin index)
+        (shown rows.old.entries.slots (Q.listed rows.old.queue))) (λ f.
+        HasSlots (length slots.now) f.1) }
+    requires new_key { IfSome (find (is_stage origin index)
+        (shown rows.old.entries.slots (Q.listed rows.old.queue))) (λ f.
+        NewKey (record {
+          stamp = stamp;
+          origin = origin;
+          index = index;
+        }) (shown rows.old.entries.slots (Q.listed rows.old.queue))) }
+    ensures tied { IsTied rows.new.spare rows.new.len (Q.spare rows.new.queue)
+        (Q.room rows.new.queue) (Q.listed rows.new.queue) rows.new.entries
+        (vec_capacity rows.new.marks) rows.new.marks.items }
+    ensures found { result ≡ is_some
+        (find (is_stage origin index) (shown rows.old.entries.slots (Q.listed rows.old.queue))) }
+    ensures shows { shown rows.new.entries.slots (Q.listed rows.new.queue)
+        ≡ committed_queue (find (is_stage origin index) (shown rows.old.entries.slots (Q.listed rows.old.queue))) origin index stamp slots.now (shown rows.old.entries.slots (Q.listed rows.old.queue)) }
     ensures spare { rows.new.spare ≡ rows.old.spare }
 {
     let Some((key, place)) = wanted_at(rows, Wanted::Stage { origin, index }) else {
@@ -77,16 +103,32 @@ pub fn commit_in<Q: QueueKind>(
 
 /// Gives the first staged notice of a driver its final stamp. Whether there was one.
 fn restamp_first<Q: QueueKind>(rows: &mut Rows<Q>, origin: u32, stamp: u64) -> bool
-    requires tied { IsTied rows.old.spare rows.old.len (Q.spare rows.old.queue) (Q.room rows.old.queue) (Q.listed rows.old.queue) rows.old.entries (vec_capacity rows.old.marks) rows.old.marks.items }
+    requires tied { IsTied rows.old.spare rows.old.len (Q.spare rows.old.queue)
+        (Q.room rows.old.queue) (Q.listed rows.old.queue) rows.old.entries
+        (vec_capacity rows.old.marks) rows.old.marks.items }
     requires even { is_odd stamp ≡ false }
-    requires distinct { DistinctIndexes (staged_notices origin (shown rows.old.entries.slots (Q.listed rows.old.queue))) }
-    requires new_keys { NewUnder stamp (staged_notices origin (shown rows.old.entries.slots (Q.listed rows.old.queue))) (shown rows.old.entries.slots (Q.listed rows.old.queue)) }
-    ensures tied { IsTied rows.new.spare rows.new.len (Q.spare rows.new.queue) (Q.room rows.new.queue) (Q.listed rows.new.queue) rows.new.entries (vec_capacity rows.new.marks) rows.new.marks.items }
-    ensures distinct { DistinctIndexes (staged_notices origin (shown rows.new.entries.slots (Q.listed rows.new.queue))) }
-    ensures new_keys { NewUnder stamp (staged_notices origin (shown rows.new.entries.slots (Q.listed rows.new.queue))) (shown rows.new.entries.slots (Q.listed rows.new.queue)) }
-    ensures kept { notices_queue origin stamp (shown rows.new.entries.slots (Q.listed rows.new.queue)) ≡ notices_queue origin stamp (shown rows.old.entries.slots (Q.listed rows.old.queue)) }
-    ensures fewer { length (staged_notices origin (shown rows.new.entries.slots (Q.listed rows.new.queue))) + (if result then 1 else 0) ≡ length (staged_notices origin (shown rows.old.entries.slots (Q.listed rows.old.queue))) }
-    ensures done { result ≡ false → notices_queue origin stamp (shown rows.new.entries.slots (Q.listed rows.new.queue)) ≡ shown rows.new.entries.slots (Q.listed rows.new.queue) }
+    requires distinct { DistinctIndexes
+        (staged_notices origin (shown rows.old.entries.slots (Q.listed rows.old.queue))) }
+    requires new_keys { NewUnder stamp
+        (staged_notices origin (shown rows.old.entries.slots (Q.listed rows.old.queue)))
+        (shown rows.old.entries.slots (Q.listed rows.old.queue)) }
+    ensures tied { IsTied rows.new.spare rows.new.len (Q.spare rows.new.queue)
+        (Q.room rows.new.queue) (Q.listed rows.new.queue) rows.new.entries
+        (vec_capacity rows.new.marks) rows.new.marks.items }
+    ensures distinct { DistinctIndexes
+        (staged_notices origin (shown rows.new.entries.slots (Q.listed rows.new.queue))) }
+    ensures new_keys { NewUnder stamp
+        (staged_notices origin (shown rows.new.entries.slots (Q.listed rows.new.queue)))
+        (shown rows.new.entries.slots (Q.listed rows.new.queue)) }
+    ensures kept { notices_queue origin stamp
+        (shown rows.new.entries.slots (Q.listed rows.new.queue))
+        ≡ notices_queue origin stamp (shown rows.old.entries.slots (Q.listed rows.old.queue)) }
+    ensures fewer { length (staged_notices origin
+        (shown rows.new.entries.slots (Q.listed rows.new.queue))) + (if result
+        then 1 else 0) ≡ length (staged_notices origin (shown rows.old.entries.slots (Q.listed rows.old.queue))) }
+    ensures done { result ≡ false
+        → notices_queue origin stamp (shown rows.new.entries.slots (Q.listed rows.new.queue))
+        ≡ shown rows.new.entries.slots (Q.listed rows.new.queue) }
     ensures spare { rows.new.spare ≡ rows.old.spare }
 {
     let Some((key, place)) = wanted_at(rows, Wanted::Notice { origin }) else {
@@ -98,12 +140,20 @@ fn restamp_first<Q: QueueKind>(rows: &mut Rows<Q>, origin: u32, stamp: u64) -> b
 
 /// Gives every staged notice of a driver its final stamp.
 pub fn commit_notices_in<Q: QueueKind>(rows: &mut Rows<Q>, origin: u32, stamp: u64)
-    requires tied { IsTied rows.old.spare rows.old.len (Q.spare rows.old.queue) (Q.room rows.old.queue) (Q.listed rows.old.queue) rows.old.entries (vec_capacity rows.old.marks) rows.old.marks.items }
+    requires tied { IsTied rows.old.spare rows.old.len (Q.spare rows.old.queue)
+        (Q.room rows.old.queue) (Q.listed rows.old.queue) rows.old.entries
+        (vec_capacity rows.old.marks) rows.old.marks.items }
     requires even { is_odd stamp ≡ false }
-    requires distinct { DistinctIndexes (staged_notices origin (shown rows.old.entries.slots (Q.listed rows.old.queue))) }
-    requires new_keys { NewUnder stamp (staged_notices origin (shown rows.old.entries.slots (Q.listed rows.old.queue))) (shown rows.old.entries.slots (Q.listed rows.old.queue)) }
-    ensures tied { IsTied rows.new.spare rows.new.len (Q.spare rows.new.queue) (Q.room rows.new.queue) (Q.listed rows.new.queue) rows.new.entries (vec_capacity rows.new.marks) rows.new.marks.items }
-    ensures shows { shown rows.new.entries.slots (Q.listed rows.new.queue) ≡ notices_queue origin stamp (shown rows.old.entries.slots (Q.listed rows.old.queue)) }
+    requires distinct { DistinctIndexes
+        (staged_notices origin (shown rows.old.entries.slots (Q.listed rows.old.queue))) }
+    requires new_keys { NewUnder stamp
+        (staged_notices origin (shown rows.old.entries.slots (Q.listed rows.old.queue)))
+        (shown rows.old.entries.slots (Q.listed rows.old.queue)) }
+    ensures tied { IsTied rows.new.spare rows.new.len (Q.spare rows.new.queue)
+        (Q.room rows.new.queue) (Q.listed rows.new.queue) rows.new.entries
+        (vec_capacity rows.new.marks) rows.new.marks.items }
+    ensures shows { shown rows.new.entries.slots (Q.listed rows.new.queue)
+        ≡ notices_queue origin stamp (shown rows.old.entries.slots (Q.listed rows.old.queue)) }
     ensures ascending { Ascending (shown rows.new.entries.slots (Q.listed rows.new.queue)) }
     ensures spare { rows.new.spare ≡ rows.old.spare }
 {

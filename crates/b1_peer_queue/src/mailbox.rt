@@ -48,7 +48,8 @@ impl<Q: QueueKind> Mailbox<Q> {
     pub fn make(alloc: Global, limits: Limits, home: u32, users: &[u32]) -> Result<Self, AllocError>
         ensures limits { IfOk result (λ m. m.limits ≡ limits) }
         ensures home { IfOk result (λ m. m.home ≡ home) }
-        ensures users { IfOk result (λ m. (user : ℕ) → list_any (λ u. u == user) m.users ≡ list_any (λ u. u == user) users.now) }
+        ensures users { IfOk result (λ m. (user : ℕ)
+            → list_any (λ u. u == user) m.users ≡ list_any (λ u. u == user) users.now) }
         ensures queue { IfOk result (λ m. m.queue ≡ []) }
         ensures spare { IfOk result (λ m. m.spare ≡ 0) }
     {
@@ -124,7 +125,10 @@ impl<Q: QueueKind> Mailbox<Q> {
         requires new_key { NewKey key self.old.queue }
         requires new_stage { find (is_stage key.origin key.index) self.old.queue ≡ None }
         requires admitted { refusal_of self.old entry ≡ None }
-        ensures { self.new ≡ record self.old { queue = put key entry self.old.queue; spare = self.old.spare - 1 } }
+        ensures { self.new ≡ record self.old {
+          queue = put key entry self.old.queue;
+          spare = self.old.spare - 1;
+        } }
     {
         put_message_in(&mut self.shelf, &mut self.quota, key, entry);
     }
@@ -136,7 +140,10 @@ impl<Q: QueueKind> Mailbox<Q> {
         requires notice { is_data entry ≡ false }
         requires new_key { NewKey key self.old.queue }
         requires new_notice { IsNewNotice entry self.old.queue }
-        ensures { self.new ≡ record self.old { queue = put key entry self.old.queue; spare = self.old.spare - 1 } }
+        ensures { self.new ≡ record self.old {
+          queue = put key entry self.old.queue;
+          spare = self.old.spare - 1;
+        } }
     {
         self.shelf.put(key, entry);
     }
@@ -144,7 +151,11 @@ impl<Q: QueueKind> Mailbox<Q> {
     /// Takes back the staged message of a driver for a place, with its charge; `None` where there is none.
     pub fn take_stage(&mut self, origin: u32, index: u32) -> Option<(Key, Entry)>
         ensures found { result ≡ find (is_stage origin index) self.old.queue }
-        ensures taken { self.new ≡ record self.old { queue = without (is_stage origin index) self.old.queue; spare = if is_some result then self.old.spare + 1 else self.old.spare } }
+        ensures taken { self.new
+            ≡ record self.old {
+              queue = without (is_stage origin index) self.old.queue;
+              spare = if is_some result then self.old.spare + 1 else self.old.spare;
+            } }
     {
         take_wanted_from(
             &mut self.shelf,
@@ -157,9 +168,11 @@ impl<Q: QueueKind> Mailbox<Q> {
     /// node; no entry has the new key. Whether there is one: nothing changes where there is none.
     pub fn commit(&mut self, origin: u32, index: u32, stamp: u64, slots: &[Slot]) -> bool
         requires even { is_odd stamp ≡ false }
-        requires committable { IsCommittable (find (is_stage origin index) self.old.queue) origin index stamp slots.now self.old.queue }
+        requires committable { IsCommittable
+            (find (is_stage origin index) self.old.queue) origin index stamp slots.now self.old.queue }
         ensures found { result ≡ is_some (find (is_stage origin index) self.old.queue) }
-        ensures committed { self.new ≡ record self.old { queue = committed_queue (find (is_stage origin index) self.old.queue) origin index stamp slots.now self.old.queue } }
+        ensures committed { self.new
+            ≡ record self.old { queue = committed_queue (find (is_stage origin index) self.old.queue) origin index stamp slots.now self.old.queue } }
     {
         self.shelf.commit(origin, index, stamp, slots)
     }
@@ -177,7 +190,11 @@ impl<Q: QueueKind> Mailbox<Q> {
 
     /// Removes the release notice of an own node, if there is one. Nothing changes where there is none.
     pub fn withdraw_release(&mut self, serial: u32)
-        ensures { self.new ≡ record self.old { queue = without (is_release_notice serial) self.old.queue; spare = if is_some (find (is_release_notice serial) self.old.queue) then self.old.spare + 1 else self.old.spare } }
+        ensures { self.new ≡ record self.old {
+          queue = without (is_release_notice serial) self.old.queue;
+          spare = if is_some (find (is_release_notice serial) self.old.queue)
+              then self.old.spare + 1 else self.old.spare;
+        } }
     {
         withdraw_from(&mut self.shelf, &mut self.quota, serial);
     }
@@ -199,7 +216,10 @@ impl<Q: QueueKind> Mailbox<Q> {
     /// Removes the entry with the least key, with its charge, and answers it; `None` where the queue is empty.
     pub fn take(&mut self) -> Option<(Key, Entry)>
         ensures front { result ≡ slice_get self.old.queue 0 }
-        ensures taken { self.new ≡ record self.old { queue = drop 1 self.old.queue; spare = if is_some result then self.old.spare + 1 else self.old.spare } }
+        ensures taken { self.new ≡ record self.old {
+          queue = drop 1 self.old.queue;
+          spare = if is_some result then self.old.spare + 1 else self.old.spare;
+        } }
     {
         take_front_from(&mut self.shelf, &mut self.quota)
     }

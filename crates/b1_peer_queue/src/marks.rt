@@ -15,7 +15,8 @@ fn place_of(marks: &[(Key, usize)], key: &Key) -> usize
     requires { AllPairs (λ a b. compare_keys a.0 b.0 ≡ Less) marks.now }
     ensures within { result ≤ length marks.now }
     ensures before { AllWithin (λ e. is_before e.0 key.now ≡ true) marks.now 0 result }
-    ensures after { AllWithin (λ e. is_before e.0 key.now ≡ false) marks.now result (length marks.now) }
+    ensures after { AllWithin (λ e. is_before e.0 key.now
+        ≡ false) marks.now result (length marks.now) }
 {
     marks.partition_point(|e| key_cmp(&e.0, key).is_lt())
 }
@@ -47,7 +48,8 @@ pub fn mark_where(marks: &mut Vec<(Key, usize)>, marked: bool, key: Key, place: 
     requires room { vec_len marks.old < vec_capacity marks.old }
     requires ascending { AllPairs (λ a b. compare_keys a.0 b.0 ≡ Less) marks.old.items }
     requires new_key { IsNewKey key marks.old.items }
-    ensures marks { marks.new.items ≡ (if marked then with_entry key place marks.old.items else marks.old.items) }
+    ensures marks { marks.new.items
+        ≡ (if marked then with_entry key place marks.old.items else marks.old.items) }
     ensures capacity { vec_capacity marks.new ≡ vec_capacity marks.old }
 {
     if marked {

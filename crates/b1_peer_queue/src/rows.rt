@@ -31,7 +31,8 @@ pub struct Rows<Q: QueueKind> {
 
 /// No rows. It takes no memory.
 pub fn make_rows<Q: QueueKind>(alloc: Global) -> Rows<Q>
-    ensures tied { IsTied result.spare result.len (Q.spare result.queue) (Q.room result.queue) (Q.listed result.queue) result.entries (vec_capacity result.marks) result.marks.items }
+    ensures tied { IsTied result.spare result.len (Q.spare result.queue) (Q.room result.queue)
+        (Q.listed result.queue) result.entries (vec_capacity result.marks) result.marks.items }
     ensures listed { Q.listed result.queue ≡ [] }
     ensures spare { result.spare ≡ 0 }
 {
@@ -46,9 +47,14 @@ pub fn make_rows<Q: QueueKind>(alloc: Global) -> Rows<Q>
 
 /// Makes room for `n` more entries. An error is want of memory.
 pub fn reserve_rows<Q: QueueKind>(rows: &mut Rows<Q>, n: usize) -> Result<(), AllocError>
-    requires { IsTied rows.old.spare rows.old.len (Q.spare rows.old.queue) (Q.room rows.old.queue) (Q.listed rows.old.queue) rows.old.entries (vec_capacity rows.old.marks) rows.old.marks.items }
-    ensures tied { IsTied rows.new.spare rows.new.len (Q.spare rows.new.queue) (Q.room rows.new.queue) (Q.listed rows.new.queue) rows.new.entries (vec_capacity rows.new.marks) rows.new.marks.items }
-    ensures shows { shown rows.new.entries.slots (Q.listed rows.new.queue) ≡ shown rows.old.entries.slots (Q.listed rows.old.queue) }
+    requires { IsTied rows.old.spare rows.old.len (Q.spare rows.old.queue) (Q.room rows.old.queue)
+        (Q.listed rows.old.queue) rows.old.entries
+        (vec_capacity rows.old.marks) rows.old.marks.items }
+    ensures tied { IsTied rows.new.spare rows.new.len (Q.spare rows.new.queue)
+        (Q.room rows.new.queue) (Q.listed rows.new.queue) rows.new.entries
+        (vec_capacity rows.new.marks) rows.new.marks.items }
+    ensures shows { shown rows.new.entries.slots (Q.listed rows.new.queue)
+        ≡ shown rows.old.entries.slots (Q.listed rows.old.queue) }
     ensures enough { OnOk result (n ≤ rows.new.spare) }
     ensures kept { rows.old.spare ≤ rows.new.spare }
     ensures err { OnErr result (rows.new.spare ≡ rows.old.spare) }
@@ -71,11 +77,16 @@ pub fn reserve_rows<Q: QueueKind>(rows: &mut Rows<Q>, n: usize) -> Result<(), Al
 
 /// Puts an entry under its key.
 pub fn put_in<Q: QueueKind>(rows: &mut Rows<Q>, key: Key, entry: Entry)
-    requires tied { IsTied rows.old.spare rows.old.len (Q.spare rows.old.queue) (Q.room rows.old.queue) (Q.listed rows.old.queue) rows.old.entries (vec_capacity rows.old.marks) rows.old.marks.items }
+    requires tied { IsTied rows.old.spare rows.old.len (Q.spare rows.old.queue)
+        (Q.room rows.old.queue) (Q.listed rows.old.queue) rows.old.entries
+        (vec_capacity rows.old.marks) rows.old.marks.items }
     requires spare { 0 < rows.old.spare }
     requires new_key { NewKey key (shown rows.old.entries.slots (Q.listed rows.old.queue)) }
-    ensures tied { IsTied rows.new.spare rows.new.len (Q.spare rows.new.queue) (Q.room rows.new.queue) (Q.listed rows.new.queue) rows.new.entries (vec_capacity rows.new.marks) rows.new.marks.items }
-    ensures shows { shown rows.new.entries.slots (Q.listed rows.new.queue) ≡ with_entry key entry (shown rows.old.entries.slots (Q.listed rows.old.queue)) }
+    ensures tied { IsTied rows.new.spare rows.new.len (Q.spare rows.new.queue)
+        (Q.room rows.new.queue) (Q.listed rows.new.queue) rows.new.entries
+        (vec_capacity rows.new.marks) rows.new.marks.items }
+    ensures shows { shown rows.new.entries.slots (Q.listed rows.new.queue)
+        ≡ with_entry key entry (shown rows.old.entries.slots (Q.listed rows.old.queue)) }
     ensures spare { rows.new.spare + 1 ≡ rows.old.spare }
 {
     let marked = is_marked(&key, &entry);
@@ -88,11 +99,16 @@ pub fn put_in<Q: QueueKind>(rows: &mut Rows<Q>, key: Key, entry: Entry)
 
 /// Takes out the entry at a place.
 fn lift_out<Q: QueueKind>(rows: &mut Rows<Q>, key: Key, place: usize) -> Entry
-    requires tied { IsTied rows.old.spare rows.old.len (Q.spare rows.old.queue) (Q.room rows.old.queue) (Q.listed rows.old.queue) rows.old.entries (vec_capacity rows.old.marks) rows.old.marks.items }
+    requires tied { IsTied rows.old.spare rows.old.len (Q.spare rows.old.queue)
+        (Q.room rows.old.queue) (Q.listed rows.old.queue) rows.old.entries
+        (vec_capacity rows.old.marks) rows.old.marks.items }
     requires there { Has (Q.listed rows.old.queue) (key, place) }
-    ensures tied { IsTied rows.new.spare rows.new.len (Q.spare rows.new.queue) (Q.room rows.new.queue) (Q.listed rows.new.queue) rows.new.entries (vec_capacity rows.new.marks) rows.new.marks.items }
+    ensures tied { IsTied rows.new.spare rows.new.len (Q.spare rows.new.queue)
+        (Q.room rows.new.queue) (Q.listed rows.new.queue) rows.new.entries
+        (vec_capacity rows.new.marks) rows.new.marks.items }
     ensures entry { (key, result) ≡ row rows.old.entries.slots (key, place) }
-    ensures shows { shown rows.new.entries.slots (Q.listed rows.new.queue) ≡ shown rows.old.entries.slots (without_place place (Q.listed rows.old.queue)) }
+    ensures shows { shown rows.new.entries.slots (Q.listed rows.new.queue)
+        ≡ shown rows.old.entries.slots (without_place place (Q.listed rows.old.queue)) }
     ensures spare { rows.new.spare ≡ rows.old.spare + 1 }
 {
     rows.queue.remove(place);
@@ -107,21 +123,32 @@ fn lift_out<Q: QueueKind>(rows: &mut Rows<Q>, key: Key, place: usize) -> Entry
 
 /// The key and the place of what is looked for first.
 pub fn wanted_at<Q: QueueKind>(rows: &Rows<Q>, wanted: Wanted) -> Option<(Key, usize)>
-    requires { IsTied rows.now.spare rows.now.len (Q.spare rows.now.queue) (Q.room rows.now.queue) (Q.listed rows.now.queue) rows.now.entries (vec_capacity rows.now.marks) rows.now.marks.items }
-    ensures found { option_map (row rows.now.entries.slots) result ≡ find (passes wanted) (shown rows.now.entries.slots (Q.listed rows.now.queue)) }
+    requires { IsTied rows.now.spare rows.now.len (Q.spare rows.now.queue) (Q.room rows.now.queue)
+        (Q.listed rows.now.queue) rows.now.entries
+        (vec_capacity rows.now.marks) rows.now.marks.items }
+    ensures found { option_map (row rows.now.entries.slots) result
+        ≡ find (passes wanted) (shown rows.now.entries.slots (Q.listed rows.now.queue)) }
     ensures there { IfSome result (λ e. Has (Q.listed rows.now.queue) e) }
-    ensures first { result ≡ find (λ e. passes wanted (row rows.now.entries.slots e)) (Q.listed rows.now.queue) }
+    ensures first { result ≡ find (λ e.
+        passes wanted (row rows.now.entries.slots e)) (Q.listed rows.now.queue) }
 {
     first_wanted(&rows.marks, &rows.entries, wanted)
 }
 
 /// Takes out what is looked for, of which there is one at most.
 pub fn take_wanted_in<Q: QueueKind>(rows: &mut Rows<Q>, wanted: Wanted) -> Option<(Key, Entry)>
-    requires tied { IsTied rows.old.spare rows.old.len (Q.spare rows.old.queue) (Q.room rows.old.queue) (Q.listed rows.old.queue) rows.old.entries (vec_capacity rows.old.marks) rows.old.marks.items }
-    requires one { count (passes wanted) (shown rows.old.entries.slots (Q.listed rows.old.queue)) ≤ 1 }
-    ensures tied { IsTied rows.new.spare rows.new.len (Q.spare rows.new.queue) (Q.room rows.new.queue) (Q.listed rows.new.queue) rows.new.entries (vec_capacity rows.new.marks) rows.new.marks.items }
-    ensures found { result ≡ find (passes wanted) (shown rows.old.entries.slots (Q.listed rows.old.queue)) }
-    ensures shows { shown rows.new.entries.slots (Q.listed rows.new.queue) ≡ without (passes wanted) (shown rows.old.entries.slots (Q.listed rows.old.queue)) }
+    requires tied { IsTied rows.old.spare rows.old.len (Q.spare rows.old.queue)
+        (Q.room rows.old.queue) (Q.listed rows.old.queue) rows.old.entries
+        (vec_capacity rows.old.marks) rows.old.marks.items }
+    requires one { count (passes wanted) (shown rows.old.entries.slots (Q.listed rows.old.queue))
+        ≤ 1 }
+    ensures tied { IsTied rows.new.spare rows.new.len (Q.spare rows.new.queue)
+        (Q.room rows.new.queue) (Q.listed rows.new.queue) rows.new.entries
+        (vec_capacity rows.new.marks) rows.new.marks.items }
+    ensures found { result ≡ find (passes wanted)
+        (shown rows.old.entries.slots (Q.listed rows.old.queue)) }
+    ensures shows { shown rows.new.entries.slots (Q.listed rows.new.queue)
+        ≡ without (passes wanted) (shown rows.old.entries.slots (Q.listed rows.old.queue)) }
     ensures spare { rows.new.spare ≡ rows.old.spare + (if is_some result then 1 else 0) }
 {
     let (key, place) = wanted_at(rows, wanted)?;
@@ -130,8 +157,11 @@ pub fn take_wanted_in<Q: QueueKind>(rows: &mut Rows<Q>, wanted: Wanted) -> Optio
 
 /// The entry with the least key; `None` where the queue is empty.
 pub fn front_in<Q: QueueKind>(rows: &Rows<Q>) -> Option<(Key, &Entry)>
-    requires { IsTied rows.now.spare rows.now.len (Q.spare rows.now.queue) (Q.room rows.now.queue) (Q.listed rows.now.queue) rows.now.entries (vec_capacity rows.now.marks) rows.now.marks.items }
-    ensures { option_map (λ f. (f.0, f.1.now)) result ≡ slice_get (shown rows.now.entries.slots (Q.listed rows.now.queue)) 0 }
+    requires { IsTied rows.now.spare rows.now.len (Q.spare rows.now.queue) (Q.room rows.now.queue)
+        (Q.listed rows.now.queue) rows.now.entries
+        (vec_capacity rows.now.marks) rows.now.marks.items }
+    ensures { option_map (λ f. (f.0, f.1.now)) result
+        ≡ slice_get (shown rows.now.entries.slots (Q.listed rows.now.queue)) 0 }
 {
     let (key, place) = rows.queue.front()?;
     let Some(entry) = rows.entries.get(place) else {
@@ -142,10 +172,15 @@ pub fn front_in<Q: QueueKind>(rows: &Rows<Q>) -> Option<(Key, &Entry)>
 
 /// Takes out the entry with the least key; `None` where the queue is empty.
 pub fn take_in<Q: QueueKind>(rows: &mut Rows<Q>) -> Option<(Key, Entry)>
-    requires { IsTied rows.old.spare rows.old.len (Q.spare rows.old.queue) (Q.room rows.old.queue) (Q.listed rows.old.queue) rows.old.entries (vec_capacity rows.old.marks) rows.old.marks.items }
-    ensures tied { IsTied rows.new.spare rows.new.len (Q.spare rows.new.queue) (Q.room rows.new.queue) (Q.listed rows.new.queue) rows.new.entries (vec_capacity rows.new.marks) rows.new.marks.items }
+    requires { IsTied rows.old.spare rows.old.len (Q.spare rows.old.queue) (Q.room rows.old.queue)
+        (Q.listed rows.old.queue) rows.old.entries
+        (vec_capacity rows.old.marks) rows.old.marks.items }
+    ensures tied { IsTied rows.new.spare rows.new.len (Q.spare rows.new.queue)
+        (Q.room rows.new.queue) (Q.listed rows.new.queue) rows.new.entries
+        (vec_capacity rows.new.marks) rows.new.marks.items }
     ensures front { result ≡ slice_get (shown rows.old.entries.slots (Q.listed rows.old.queue)) 0 }
-    ensures shows { shown rows.new.entries.slots (Q.listed rows.new.queue) ≡ drop 1 (shown rows.old.entries.slots (Q.listed rows.old.queue)) }
+    ensures shows { shown rows.new.entries.slots (Q.listed rows.new.queue)
+        ≡ drop 1 (shown rows.old.entries.slots (Q.listed rows.old.queue)) }
     ensures spare { rows.new.spare ≡ rows.old.spare + (if is_some result then 1 else 0) }
 {
     let (key, place) = rows.queue.front()?;

@@ -94,10 +94,13 @@ impl<Q: QueueKind> Shelf<Q> {
     /// Gives the staged message of a driver for a place its final stamp and its slots. Whether there is one.
     pub fn commit(&mut self, origin: u32, index: u32, stamp: u64, slots: &[Slot]) -> bool
         requires one { count (is_stage origin index) self.old.queue ≤ 1 }
-        requires fits { IfSome (find (is_stage origin index) self.old.queue) (λ f. HasSlots (length slots.now) f.1) }
-        requires new_key { IfSome (find (is_stage origin index) self.old.queue) (λ f. NewKey (record { stamp = stamp; origin = origin; index = index }) self.old.queue) }
+        requires fits { IfSome (find (is_stage origin index) self.old.queue) (λ f.
+            HasSlots (length slots.now) f.1) }
+        requires new_key { IfSome (find (is_stage origin index) self.old.queue) (λ f.
+            NewKey (record { stamp = stamp; origin = origin; index = index }) self.old.queue) }
         ensures found { result ≡ is_some (find (is_stage origin index) self.old.queue) }
-        ensures queue { self.new.queue ≡ committed_queue (find (is_stage origin index) self.old.queue) origin index stamp slots.now self.old.queue }
+        ensures queue { self.new.queue
+            ≡ committed_queue (find (is_stage origin index) self.old.queue) origin index stamp slots.now self.old.queue }
         ensures spare { self.new.spare ≡ self.old.spare }
     {
         commit_in(&mut self.rows, origin, index, stamp, slots)

@@ -183,7 +183,8 @@ pub fn nobody_waits(waiting: &Vec<u32>) -> bool
 
 /// Peer p joins the peers that wait, where its commands haven't ended. An error is want of memory.
 pub fn push_left(waiting: &mut Vec<u32>, p: u32, ended: bool) -> Result<(), AllocError>
-    ensures { OnOk result (waiting.new.items ≡ waiting.old.items ++ (if ended then [] else p ∷ [])) }
+    ensures { OnOk result (waiting.new.items ≡ waiting.old.items
+        ++ (if ended then [] else p ∷ [])) }
 {
     if ended {
         return Ok(());

@@ -10,7 +10,8 @@ use b1_model::{Answer, Call, Reason, Record};
 /// Whether a record shows a SEND that was refused for memory, also at one place of it.
 pub fn has_shortage(rec: &Record) -> bool
     ensures exact { result ≡ some_shortage rec.now }
-    ensures nowhere { result ≡ false → (p k : ℕ) (place : Maybe ℕ) → shortage_of rec.now p k place ≡ false }
+    ensures nowhere { result ≡ false → (p k : ℕ) (place : Maybe ℕ)
+        → shortage_of rec.now p k place ≡ false }
 {
     record_is_short(rec)
 }

@@ -11,7 +11,9 @@ ghost use Rattle.b1_play_report.specs.Limits.{NoLimits};
 /// a reset or an AWAIT, the answer of a flush is that of a PEER_RESET or a PEER_DISCONNECT, and each destroy notice has an
 /// even number.
 pub fn what_is_played_is_spelled()
-    ensures played { (o : Opening) (lists : List (List Command)) (turns : List ℕ) (r : Record) → IsOpening o → NoLimits lists → IsPlay o lists turns r → EachSpelled r.peers }
-    ensures stalled { (o : Opening) (lists : List (List Command)) (turns : List ℕ) (waiting : List ℕ) (r : Record) → IsOpening o → NoLimits lists
+    ensures played { (o : Opening) (lists : List (List Command)) (turns : List ℕ) (r : Record)
+        → IsOpening o → NoLimits lists → IsPlay o lists turns r → EachSpelled r.peers }
+    ensures stalled { (o : Opening) (lists : List (List Command)) (turns : List ℕ)
+        (waiting : List ℕ) (r : Record) → IsOpening o → NoLimits lists
         → IsStall o lists turns waiting r → EachSpelled r.peers }
 {}

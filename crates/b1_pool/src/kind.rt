@@ -58,7 +58,8 @@ pub trait PoolKind: Drop {
     fn fits(&self, len: u32) -> Result<(), Full>
         requires { IsLength len }
         ensures ok { is_ok result ≡ has_fit len (slices self.now) }
-        ensures full { IfErr result (λ e. e ≡ record { asked = len; largest = largest_free (slices self.now) }) }
+        ensures full { IfErr result (λ e. e
+            ≡ record { asked = len; largest = largest_free (slices self.now) }) }
         ensures sound { IsPool (length (content self.now)) (slices self.now) };
 
     /// Takes the front of the least free slice that fits, the one at the lowest offset among equals.
@@ -70,7 +71,8 @@ pub trait PoolKind: Drop {
         ensures offset { best_fit len (slices self.old) ≡ Some result }
         ensures least { IsBestFit len (slices self.old) result }
         ensures slices { slices self.new ≡ with_alloc result len (slices self.old) }
-        ensures taken { slice_at result (slices self.new) ≡ Some (record { offset = result; length = len; state = Unpublished }) }
+        ensures taken { slice_at result (slices self.new)
+            ≡ Some (record { offset = result; length = len; state = Unpublished }) }
         ensures content { content self.new ≡ content self.old }
         ensures spare { spare self.old ≤ spare self.new + 1 }
         ensures sound { IsPool (length (content self.new)) (slices self.new) };
@@ -104,7 +106,8 @@ pub trait PoolKind: Drop {
     /// where no published slice begins there, the pool stays as it was.
     fn release(&mut self, off: u64) -> Result<(), NoSlice>
         ensures ok { is_ok result ≡ begins is_published off (slices self.old) }
-        ensures slices { slices self.new ≡ (if is_ok result then given_back off (slices self.old) else slices self.old) }
+        ensures slices { slices self.new
+            ≡ (if is_ok result then given_back off (slices self.old) else slices self.old) }
         ensures content { content self.new ≡ content self.old }
         ensures spare { spare self.old ≤ spare self.new }
         ensures sound { IsPool (length (content self.new)) (slices self.new) };

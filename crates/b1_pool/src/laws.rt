@@ -6,7 +6,13 @@ ghost use Rattle.b1_pool.specs.declared.slices.Slice.{Slice as Slices};
 
 /// A call that takes, publishes or gives back a slice leaves those in use that begin elsewhere.
 pub fn other_slices_stay()
-    ensures taken { (size here len offset : ℕ) (slices : List Slices) (s : Slices) → IsPool size slices → slice_at here slices ≡ Some s → 0 < len → len ≤ s.length → here ≢ offset → used_at offset (with_alloc here len slices) ≡ used_at offset slices }
-    ensures published { (size here offset : ℕ) (slices : List Slices) (s : Slices) → IsPool size slices → slice_at here slices ≡ Some s → here ≢ offset → used_at offset (published here slices) ≡ used_at offset slices }
-    ensures given_back { (size here offset : ℕ) (slices : List Slices) (s : Slices) → IsPool size slices → slice_at here slices ≡ Some s → here ≢ offset → used_at offset (given_back here slices) ≡ used_at offset slices }
+    ensures taken { (size here len offset : ℕ) (slices : List Slices) (s : Slices)
+        → IsPool size slices → slice_at here slices ≡ Some s → 0 < len → len ≤ s.length
+        → here ≢ offset → used_at offset (with_alloc here len slices) ≡ used_at offset slices }
+    ensures published { (size here offset : ℕ) (slices : List Slices) (s : Slices)
+        → IsPool size slices → slice_at here slices ≡ Some s → here ≢ offset
+        → used_at offset (published here slices) ≡ used_at offset slices }
+    ensures given_back { (size here offset : ℕ) (slices : List Slices) (s : Slices)
+        → IsPool size slices → slice_at here slices ≡ Some s → here ≢ offset
+        → used_at offset (given_back here slices) ≡ used_at offset slices }
 {}

@@ -163,7 +163,8 @@ pub(crate) fn release_at(slices: &mut Vec<Slice>, off: u64) -> Result<(), NoSlic
     requires inside { total slices.old.items < 2 ^ 32 }
     requires merged { IsMerged slices.old.items }
     ensures ok { is_ok result ≡ begins is_published off slices.old.items }
-    ensures slices { slices.new.items ≡ (if is_ok result then given_back off slices.old.items else slices.old.items) }
+    ensures slices { slices.new.items
+        ≡ (if is_ok result then given_back off slices.old.items else slices.old.items) }
     ensures sound { (size : ℕ) → IsPool size slices.old.items → IsPool size slices.new.items }
     ensures capacity { vec_capacity slices.new ≡ vec_capacity slices.old }
     ensures len { vec_len slices.new ≤ vec_len slices.old }

@@ -111,7 +111,8 @@ pub fn release(slices: &mut Vec<Slice>, free: &mut Vec<Slice>, off: u64) -> Resu
     requires room { vec_len slices.old ≤ vec_capacity free.old }
     requires sized { free.old.items ≡ by_size slices.old.items }
     ensures ok { is_ok result ≡ begins is_published off slices.old.items }
-    ensures slices { slices.new.items ≡ (if is_ok result then given_back off slices.old.items else slices.old.items) }
+    ensures slices { slices.new.items
+        ≡ (if is_ok result then given_back off slices.old.items else slices.old.items) }
     ensures sound { (size : ℕ) → IsPool size slices.old.items → IsPool size slices.new.items }
     ensures sized { free.new.items ≡ by_size slices.new.items }
     ensures capacity { vec_capacity slices.new ≡ vec_capacity slices.old }

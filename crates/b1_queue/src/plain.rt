@@ -76,7 +76,8 @@ fn place_of(entries: &[(Key, usize)], key: &Key) -> usize
     requires { AllPairs (λ a b. compare_keys a.0 b.0 ≡ Less) entries.now }
     ensures within { result ≤ length entries.now }
     ensures before { AllWithin (λ e. is_before e.0 key.now ≡ true) entries.now 0 result }
-    ensures after { AllWithin (λ e. is_before e.0 key.now ≡ false) entries.now result (length entries.now) }
+    ensures after { AllWithin (λ e. is_before e.0 key.now
+        ≡ false) entries.now result (length entries.now) }
 {
     entries.partition_point(|e| key_cmp(&e.0, key).is_lt())
 }

@@ -61,9 +61,11 @@ impl Quota {
     ) -> Result<Quota, AllocError>
         ensures limits { IfOk result (λ q. q.limits ≡ limits) }
         ensures home { IfOk result (λ q. q.home ≡ home) }
-        ensures users { IfOk result (λ q. (user : ℕ) → has_account user q.accounts ≡ list_any (λ u. u == user) users.now) }
+        ensures users { IfOk result (λ q. (user : ℕ)
+            → has_account user q.accounts ≡ list_any (λ u. u == user) users.now) }
         ensures distinct { IfOk result (λ q. IsDistinct q.accounts) }
-        ensures nothing_charged { IfOk result (λ q. (what : Quantities) (passes : ℕ → Bool) → charged_to what passes q.accounts ≡ 0) }
+        ensures nothing_charged { IfOk result (λ q. (what : Quantities) (passes : ℕ → Bool)
+            → charged_to what passes q.accounts ≡ 0) }
     {
         let mut accounts = Vec::new(alloc);
         for user in users {
@@ -110,10 +112,15 @@ impl Quota {
     /// was. A quantity of which nothing is asked never fails.
     pub fn charge(&mut self, user: u32, asked: Charge) -> Result<(), Over>
         requires { has_account user self.old.accounts ≡ true }
-        ensures refused { MatchResult result (λ _. refusal self.old user asked ≡ None) (λ over. refusal self.old user asked ≡ Some over) }
-        ensures charged { OnOk result (self.new ≡ record self.old { accounts = with_charge user (plus asked) self.old.accounts }) }
+        ensures refused { MatchResult result (λ _. refusal self.old user asked
+            ≡ None) (λ over. refusal self.old user asked ≡ Some over) }
+        ensures charged { OnOk result (self.new
+            ≡ record self.old { accounts = with_charge user (plus asked) self.old.accounts }) }
         ensures unchanged { OnErr result (self.new ≡ self.old) }
-        ensures amounts { OnOk result ((what : Quantities) (passes : ℕ → Bool) → charged_to what passes self.new.accounts ≡ charged_to what passes self.old.accounts + (if passes user then amount_in what asked else 0)) }
+        ensures amounts { OnOk result ((what : Quantities) (passes : ℕ → Bool)
+            → charged_to what passes self.new.accounts
+            ≡ charged_to what passes self.old.accounts + (if passes user then amount_in what asked
+            else 0)) }
         ensures users { users_of self.new.accounts ≡ users_of self.old.accounts }
     {
         self.check(user, &asked, Quantity::Entries)?;
@@ -125,8 +132,10 @@ impl Quota {
 
     /// Whether a quantity of a charge passes.
     fn check(&self, user: u32, asked: &Charge, what: Quantity) -> Result<(), Over>
-        ensures refused { MatchResult result (λ _. refusal_of self.now user asked.now what ≡ None) (λ over. refusal_of self.now user asked.now what ≡ Some over) }
-        ensures fits { OnOk result (total what self.now.accounts + amount_in what asked.now < 2 ^ 32) }
+        ensures refused { MatchResult result (λ _. refusal_of self.now user asked.now what
+            ≡ None) (λ over. refusal_of self.now user asked.now what ≡ Some over) }
+        ensures fits { OnOk result
+            (total what self.now.accounts + amount_in what asked.now < 2 ^ 32) }
     {
         let limit = limit(&self.limits, what);
         let shares = shares_of(&self.accounts, user, what);
@@ -149,8 +158,11 @@ impl Quota {
         requires entries { asked.entries ≤ own_charge Entries user self.old.accounts }
         requires bytes { asked.bytes ≤ own_charge Bytes user self.old.accounts }
         requires handles { asked.handles ≤ own_charge Handles user self.old.accounts }
-        ensures discharged { self.new ≡ record self.old { accounts = with_charge user (minus asked) self.old.accounts } }
-        ensures amounts { (what : Quantities) (passes : ℕ → Bool) → charged_to what passes self.new.accounts + (if passes user then amount_in what asked else 0) ≡ charged_to what passes self.old.accounts }
+        ensures discharged { self.new
+            ≡ record self.old { accounts = with_charge user (minus asked) self.old.accounts } }
+        ensures amounts { (what : Quantities) (passes : ℕ → Bool)
+            → charged_to what passes self.new.accounts + (if passes user then amount_in what asked
+            else 0) ≡ charged_to what passes self.old.accounts }
         ensures users { users_of self.new.accounts ≡ users_of self.old.accounts }
     {
         charge_less(&mut self.accounts, user, &asked);
@@ -166,8 +178,13 @@ impl Quota {
 
     /// Charges nobody anything, under new limits.
     pub fn flush(&mut self, new_limits: Limits)
-        ensures flushed { self.new ≡ record { limits = new_limits; home = self.old.home; accounts = cleared self.old.accounts } }
-        ensures nothing_charged { (what : Quantities) (passes : ℕ → Bool) → charged_to what passes self.new.accounts ≡ 0 }
+        ensures flushed { self.new ≡ record {
+          limits = new_limits;
+          home = self.old.home;
+          accounts = cleared self.old.accounts;
+        } }
+        ensures nothing_charged { (what : Quantities) (passes : ℕ → Bool)
+            → charged_to what passes self.new.accounts ≡ 0 }
         ensures users { users_of self.new.accounts ≡ users_of self.old.accounts }
     {
         clear(&mut self.accounts);

@@ -163,8 +163,10 @@ pub fn decode(alloc: Global, bytes: &[u8], at: usize) -> Result<(Command, usize)
 
 /// A place in bytes has no first fault exactly where a command's record begins there.
 pub fn every_place_has_a_record_or_a_fault()
-    ensures none { (bytes : List ℕ) (at : ℕ) → AllByRecursion IsByte bytes → bad_record bytes at ≡ None
+    ensures none { (bytes : List ℕ) (at : ℕ) → AllByRecursion IsByte bytes
+        → bad_record bytes at ≡ None
         → (command : Command) × (end : ℕ) × IsRecord bytes at command end }
-    ensures some { (bytes : List ℕ) (at : ℕ) (command : Command) (end : ℕ) → AllByRecursion IsByte bytes
+    ensures some { (bytes : List ℕ) (at : ℕ) (command : Command) (end : ℕ)
+        → AllByRecursion IsByte bytes
         → IsRecord bytes at command end → bad_record bytes at ≡ None }
 {}

@@ -14,7 +14,8 @@ pub(crate) fn write_answer(
     command: &Command,
     answer: &Answer,
 ) -> Result<(), AllocError>
-    ensures { OnOk result (string_bytes out.new ≡ string_bytes out.old ++ answer_text command.now answer.now) }
+    ensures { OnOk result (string_bytes out.new ≡ string_bytes out.old
+        ++ answer_text command.now answer.now) }
 {
     match answer {
         Answer::Sent(sent) => {
@@ -35,7 +36,8 @@ pub(crate) fn write_answer(
 }
 
 fn write_reset(out: &mut String, command: &Command, stamp: Option<u64>) -> Result<(), AllocError>
-    ensures { OnOk result (string_bytes out.new ≡ string_bytes out.old ++ reset_text command.now stamp) }
+    ensures { OnOk result (string_bytes out.new ≡ string_bytes out.old
+        ++ reset_text command.now stamp) }
 {
     match command {
         Command::Disconnect => out.push_str("left ")?,
@@ -48,7 +50,8 @@ fn write_reset(out: &mut String, command: &Command, stamp: Option<u64>) -> Resul
 }
 
 fn write_receipt(out: &mut String, receipt: &Receipt) -> Result<(), AllocError>
-    ensures { OnOk result (string_bytes out.new ≡ string_bytes out.old ++ receipt_text receipt.now) }
+    ensures { OnOk result (string_bytes out.new ≡ string_bytes out.old
+        ++ receipt_text receipt.now) }
 {
     match receipt {
         Receipt::Message {

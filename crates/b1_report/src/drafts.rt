@@ -31,7 +31,8 @@ impl Draft {
     }
 
     fn close(&mut self, alloc: Global) -> Result<(), AllocError>
-        ensures done { OnOk result (self.new.peers.items ≡ self.old.peers.items ++ opened self.old.begun self.old.calls.items) }
+        ensures done { OnOk result (self.new.peers.items ≡ self.old.peers.items
+            ++ opened self.old.begun self.old.calls.items) }
         ensures calls { OnOk result (self.new.calls.items ≡ []) }
     {
         let calls = mem::replace(&mut self.calls, Vec::new(alloc));
@@ -46,7 +47,8 @@ impl Draft {
     }
 
     fn begin(&mut self, alloc: Global, epoch: u64, clock: u64) -> Result<(), AllocError>
-        ensures done { OnOk result (self.new.peers.items ≡ self.old.peers.items ++ opened self.old.begun self.old.calls.items) }
+        ensures done { OnOk result (self.new.peers.items ≡ self.old.peers.items
+            ++ opened self.old.begun self.old.calls.items) }
         ensures calls { OnOk result (self.new.calls.items ≡ []) }
         ensures begun { OnOk result (self.new.begun ≡ Some (epoch, clock)) }
     {
@@ -56,7 +58,8 @@ impl Draft {
     }
 
     pub(crate) fn take(&mut self, alloc: Global, line: Line) -> Result<(), AllocError>
-        ensures { OnOk result ((ls : List Line) → drafted self.new ls ≡ drafted self.old (line ∷ ls)) }
+        ensures { OnOk result ((ls : List Line)
+            → drafted self.new ls ≡ drafted self.old (line ∷ ls)) }
     {
         match line {
             Line::Peer { epoch, clock } => self.begin(alloc, epoch, clock),

@@ -62,7 +62,8 @@ fn write_peers(out: &mut String, peers: &[PeerCalls]) -> Result<(), AllocError>
 
 fn write_peer(out: &mut String, number: usize, peer: &PeerCalls) -> Result<(), AllocError>
     requires { AllSpelled peer.now.calls }
-    ensures { OnOk result (string_bytes out.new ≡ string_bytes out.old ++ peer_text (number, peer.now)) }
+    ensures { OnOk result (string_bytes out.new ≡ string_bytes out.old
+        ++ peer_text (number, peer.now)) }
 {
     write!(
         out,

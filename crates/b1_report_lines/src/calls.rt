@@ -23,7 +23,8 @@ fn spaced(bytes: &[u8]) -> Option<&[u8]>
 
 /// A call whose command is known, and what stands behind the equals sign.
 fn answered(alloc: Global, command: Command, right: &[u8]) -> Result<Call, Unread>
-    ensures gives { Gives (λ call. call.answer) result (behind (codes " ") (answer_at command) right.now) }
+    ensures gives { Gives (λ call.
+        call.answer) result (behind (codes " ") (answer_at command) right.now) }
     ensures command { IfOk result (λ call. call.command ≡ command) }
 {
     let rest = after(right, " ")?;

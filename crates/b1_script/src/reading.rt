@@ -88,7 +88,8 @@ pub fn read(alloc: Global, bytes: &[u8]) -> Result<(Script, usize), NotRead>
     // What is read is spelled there.
     ensures found { IfOk result (λ read. IsScript bytes.now read.0 read.1) }
     // What is spelled there is read, unless memory runs out.
-    ensures only { (s : Script) (end : ℕ) → IsScript bytes.now s end → Gives (λ x. x) result (Ok (s, end)) }
+    ensures only { (s : Script) (end : ℕ) → IsScript bytes.now s end
+        → Gives (λ x. x) result (Ok (s, end)) }
     // A fault is the first rule that is broken.
     ensures bad { IfErr result (λ why. IsFault why (bad_script bytes.now)) }
 {

@@ -80,7 +80,11 @@ fn resolve_all(alloc: Global, numbers: &[u64], calls: &[Call]) -> Result<Nums, A
 }
 
 fn resolve_send(alloc: Global, send: &SendCmd, calls: &[Call]) -> Result<SendCmd, AllocError>
-    ensures { IfOk result (λ s. s ≡ record send.now { to = map (resolved_handle calls.now) send.now.to; with = map (resolved_handle calls.now) send.now.with }) }
+    ensures { IfOk result (λ s. s
+        ≡ record send.now {
+          to = map (resolved_handle calls.now) send.now.to;
+          with = map (resolved_handle calls.now) send.now.with;
+        }) }
 {
     Ok(SendCmd {
         go_on: send.go_on,

@@ -54,7 +54,8 @@ fn put_wires(out: &mut Vec<u8>, wires: &[Wire]) -> Result<(), AllocError>
 
 fn put_records(out: &mut Vec<u8>, commands: &[Command]) -> Result<(), AllocError>
     requires { AllByRecursion IsWithin commands.now }
-    ensures { OnOk result (out.new.items ≡ out.old.items ++ flat_map records.spelling commands.now) }
+    ensures { OnOk result (out.new.items ≡ out.old.items
+        ++ flat_map records.spelling commands.now) }
 {
     for command in commands {
         encode(command, out)?;

@@ -35,10 +35,14 @@ pub struct Boxed {
 /// Whatever memory refuses, the record of the serial bus is legal, nothing is left to receive, and its calls are the
 /// script's: sends, receives and releases of slices, and no call of another kind.
 pub fn every_serial_record_is_legal()
-    ensures legal { (o : Opening) (lists : List (List Command)) (m : Shortage) → IsPlayable o lists → Legal o (serial o lists m) }
-    ensures whole { (o : Opening) (lists : List (List Command)) (m : Shortage) → IsPlayable o lists → Whole o (serial o lists m) }
-    ensures script { (o : Opening) (lists : List (List Command)) (m : Shortage) → IsPlayable o lists → Script o lists (serial o lists m) }
-    ensures calls { (o : Opening) (lists : List (List Command)) (m : Shortage) → IsPlayable o lists → IsAllSerial (serial o lists m) }
+    ensures legal { (o : Opening) (lists : List (List Command)) (m : Shortage) → IsPlayable o lists
+        → Legal o (serial o lists m) }
+    ensures whole { (o : Opening) (lists : List (List Command)) (m : Shortage) → IsPlayable o lists
+        → Whole o (serial o lists m) }
+    ensures script { (o : Opening) (lists : List (List Command)) (m : Shortage) → IsPlayable o lists
+        → Script o lists (serial o lists m) }
+    ensures calls { (o : Opening) (lists : List (List Command)) (m : Shortage) → IsPlayable o lists
+        → IsAllSerial (serial o lists m) }
 {
     plain_call_keeps_legal();
     receipt_keeps_legal();

@@ -54,7 +54,8 @@ fn answer_record(
 ) -> Result<(Said, Vec<u8>), AllocError>
     requires few { length bytes.now ≤ MOST_CHECKED }
     requires script { IsScript bytes.now script.now end }
-    requires report { report.IsReport (length script.now.opening.peers) (drop end bytes.now) outcome.now }
+    requires report { report.IsReport (length script.now.opening.peers)
+        (drop end bytes.now) outcome.now }
     ensures { IfOk result (λ r. Says Check bytes.now r.0 r.1.items) }
 {
     let _ = bytes;

@@ -31,7 +31,8 @@ pub fn form_of(words: &[String]) -> Option<Form>
 /// The form whose word it is.
 fn form_of_word(word: &String) -> Option<Form>
     ensures asked { IfSome result (λ form. string_bytes word.now ≡ forms.word_of form) }
-    ensures nothing { IfNone result ((form : Form) → string_bytes word.now ≡ forms.word_of form → ⊥) }
+    ensures nothing { IfNone result ((form : Form) → string_bytes word.now ≡ forms.word_of form
+        → ⊥) }
 {
     match word.as_str() {
         "play" => Some(Form::Play),

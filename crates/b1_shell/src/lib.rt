@@ -60,12 +60,18 @@ fn read_and_answer<S: Source>(
     form: Form,
     source: &mut S,
 ) -> Result<(Said, Vec<u8>), Unsaid>
-    ensures says { IfOk result (λ r. IfSome (S.left source.old) (λ held. Says form held r.0 r.1.items)) }
-    ensures end { IfOk result (λ r. IfSome (S.left source.old) (λ held. length held ≤ most form → S.left source.new ≡ Some [])) }
-    ensures done_end { IfOk result (λ r. r.0 ≡ Done → IfSome (S.left source.old) (λ held. S.left source.new ≡ Some [])) }
-    ensures stalled_end { IfOk result (λ r. r.0 ≡ Stalled → IfSome (S.left source.old) (λ held. S.left source.new ≡ Some [])) }
-    ensures broken_end { IfOk result (λ r. r.0 ≡ Broken → IfSome (S.left source.old) (λ held. S.left source.new ≡ Some [])) }
-    ensures fault { IfErr result (λ e. e ≡ Fault → Rose (S.faults source.old) (S.faults source.new)) }
+    ensures says { IfOk result (λ r.
+        IfSome (S.left source.old) (λ held. Says form held r.0 r.1.items)) }
+    ensures end { IfOk result (λ r. IfSome (S.left source.old) (λ held. length held ≤ most form
+        → S.left source.new ≡ Some [])) }
+    ensures done_end { IfOk result (λ r. r.0 ≡ Done
+        → IfSome (S.left source.old) (λ held. S.left source.new ≡ Some [])) }
+    ensures stalled_end { IfOk result (λ r. r.0 ≡ Stalled
+        → IfSome (S.left source.old) (λ held. S.left source.new ≡ Some [])) }
+    ensures broken_end { IfOk result (λ r. r.0 ≡ Broken
+        → IfSome (S.left source.old) (λ held. S.left source.new ≡ Some [])) }
+    ensures fault { IfErr result (λ e. e ≡ Fault
+        → Rose (S.faults source.old) (S.faults source.new)) }
 {
     let limit = most_input(form);
     match read_all(alloc, source, limit) {
@@ -98,7 +104,8 @@ fn run<S: Source, K: Sink>(alloc: Global, words: &[String], source: &mut S, sink
     ensures write_fault { result ≡ 5 → Rose (K.faults sink.old) (K.faults sink.new) }
     ensures usage { TellsUsage (spelled words.now) (K.taken sink.old) (K.taken sink.new) result }
     ensures ends { ReadsToEnd (spelled words.now) (S.left source.old) (S.left source.new) result }
-    ensures input { TellsInput (spelled words.now) (S.left source.old) (K.taken sink.old) (K.taken sink.new) result }
+    ensures input { TellsInput (spelled words.now) (S.left source.old) (K.taken sink.old)
+        (K.taken sink.new) result }
 {
     let Some(form) = form_of(words) else {
         return match write_all(
@@ -150,7 +157,8 @@ pub fn quiet<S: Source, K: Sink>(
     ensures write_fault { result ≡ 5 → Rose (K.faults sink.old) (K.faults sink.new) }
     ensures usage { TellsUsage (spelled words.now) (K.taken sink.old) (K.taken sink.new) result }
     ensures ends { ReadsToEnd (spelled words.now) (S.left source.old) (S.left source.new) result }
-    ensures input { TellsInput (spelled words.now) (S.left source.old) (K.taken sink.old) (K.taken sink.new) result }
+    ensures input { TellsInput (spelled words.now) (S.left source.old) (K.taken sink.old)
+        (K.taken sink.new) result }
 {
     run(alloc, words, source, sink)
 }
@@ -165,7 +173,8 @@ pub fn top<S: Source, K: Sink>(alloc: Global, words: &[String], source: &mut S, 
     ensures write_fault { result ≡ 5 → Rose (K.faults sink.old) (K.faults sink.new) }
     ensures usage { TellsUsage (spelled words.now) (K.taken sink.old) (K.taken sink.new) result }
     ensures ends { ReadsToEnd (spelled words.now) (S.left source.old) (S.left source.new) result }
-    ensures input { TellsInput (spelled words.now) (S.left source.old) (K.taken sink.old) (K.taken sink.new) result }
+    ensures input { TellsInput (spelled words.now) (S.left source.old) (K.taken sink.old)
+        (K.taken sink.new) result }
 {
     run(alloc, words, source, sink)
 }

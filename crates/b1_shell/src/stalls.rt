@@ -17,7 +17,8 @@ pub fn stall_report(
     reached: &Record,
 ) -> Result<Vec<u8>, AllocError>
     requires { EachSpelled reached.now.peers }
-    ensures { IfOk result (λ text. text.items ≡ texts.stalled_line waiting.now ++ report_text reached.now) }
+    ensures { IfOk result (λ text. text.items ≡ texts.stalled_line waiting.now
+        ++ report_text reached.now) }
 {
     let mut text = stalled_line(alloc, waiting.as_slice())?;
     let report = print(alloc, reached)?;
@@ -38,7 +39,8 @@ fn stalled_line(alloc: Global, waiting: &[u32]) -> Result<Vec<u8>, AllocError>
 
 /// Numbers of peers, with commas between them.
 fn write_peers(out: &mut String, peers: &[u32]) -> Result<(), AllocError>
-    ensures { OnOk result (string_bytes out.new ≡ string_bytes out.old ++ list_text decimal peers.now) }
+    ensures { OnOk result (string_bytes out.new ≡ string_bytes out.old
+        ++ list_text decimal peers.now) }
 {
     let [first, rest @ ..] = peers else {
         return out.push_str("-");

@@ -23,16 +23,22 @@ use b1_serial::every_serial_record_is_legal;
 /// the serial bus's, with memory wanting as the record shows, if no quota refuses a call of it; and none does where
 /// all sends together have no more entries and bytes than half of each peer's limits.
 pub fn small_scripts_run_serially()
-    ensures within { (o : Opening) (lists : List (List Command)) (r : Record) → IsPlayable o lists → IsWithinQuotas r → IsPlay o lists [] r → r ≡ serial o lists (shortage_of r) }
-    ensures light { (o : Opening) (lists : List (List Command)) (r : Record) → IsPlayable o lists → IsLight o lists → IsPlay o lists [] r → r ≡ serial o lists (shortage_of r) }
+    ensures within { (o : Opening) (lists : List (List Command)) (r : Record) → IsPlayable o lists
+        → IsWithinQuotas r → IsPlay o lists [] r → r ≡ serial o lists (shortage_of r) }
+    ensures light { (o : Opening) (lists : List (List Command)) (r : Record) → IsPlayable o lists
+        → IsLight o lists → IsPlay o lists [] r → r ≡ serial o lists (shortage_of r) }
 {}
 
 /// So this record is legal, nothing is left to receive, and its calls are the script's and of these three kinds.
 pub fn small_records_are_legal()
-    ensures legal { (o : Opening) (lists : List (List Command)) (r : Record) → IsPlayable o lists → MeetsNoQuota o lists r → IsPlay o lists [] r → Legal o r }
-    ensures whole { (o : Opening) (lists : List (List Command)) (r : Record) → IsPlayable o lists → MeetsNoQuota o lists r → IsPlay o lists [] r → Whole o r }
-    ensures script { (o : Opening) (lists : List (List Command)) (r : Record) → IsPlayable o lists → MeetsNoQuota o lists r → IsPlay o lists [] r → Script o lists r }
-    ensures calls { (o : Opening) (lists : List (List Command)) (r : Record) → IsPlayable o lists → MeetsNoQuota o lists r → IsPlay o lists [] r → IsAllSerial r }
+    ensures legal { (o : Opening) (lists : List (List Command)) (r : Record) → IsPlayable o lists
+        → MeetsNoQuota o lists r → IsPlay o lists [] r → Legal o r }
+    ensures whole { (o : Opening) (lists : List (List Command)) (r : Record) → IsPlayable o lists
+        → MeetsNoQuota o lists r → IsPlay o lists [] r → Whole o r }
+    ensures script { (o : Opening) (lists : List (List Command)) (r : Record) → IsPlayable o lists
+        → MeetsNoQuota o lists r → IsPlay o lists [] r → Script o lists r }
+    ensures calls { (o : Opening) (lists : List (List Command)) (r : Record) → IsPlayable o lists
+        → MeetsNoQuota o lists r → IsPlay o lists [] r → IsAllSerial r }
 {
     every_serial_record_is_legal();
 }

@@ -36,7 +36,8 @@ fn message(
     payload: &[u8],
 ) -> Result<Entry, AllocError>
     requires { length payload.now ≤ MOST_PAYLOAD }
-    ensures { IfOk result (λ e. e ≡ Message origin user index 3 0 (length payload.now) [] [] [] payload.now) }
+    ensures { IfOk result (λ e. e
+        ≡ Message origin user index 3 0 (length payload.now) [] [] [] payload.now) }
 {
     Ok(Entry::Message {
         origin,

@@ -37,7 +37,13 @@ fn quota_of_bytes(rt: HostRuntime) -> Result<(), Fail> {
 }
 
 fn over(own: u64, others: u64, asked: u32) -> Over
-    ensures { result ≡ record { what = Quantity.Bytes; own = own; others = others; limit = 32; asked = asked } }
+    ensures { result ≡ record {
+      what = Quantity.Bytes;
+      own = own;
+      others = others;
+      limit = 32;
+      asked = asked;
+    } }
 {
     Over {
         what: Quantity::Bytes,

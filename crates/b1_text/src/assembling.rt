@@ -28,7 +28,8 @@ fn broken(at: usize) -> NotRead
 /// The first line from a place on, and the place behind its line feed; `None` where no line feed is left.
 fn first_line(bytes: &[u8], at: usize) -> Option<(&[u8], usize)>
     requires { at ≤ length bytes.now }
-    ensures { MatchOption result (IsLine (drop at bytes.now)) (λ x. IsFirstLine bytes.now at x.0.now x.1) }
+    ensures { MatchOption result (IsLine (drop at bytes.now)) (λ x.
+        IsFirstLine bytes.now at x.0.now x.1) }
 {
     let (line, _) = split(&bytes[at..], LINE_FEED)?;
     Some((line, at + line.len() + 1))

@@ -16,7 +16,9 @@ use std::alloc::{AllocError, Global};
 
 /// Whether the line of a command for whose record there is room begins with these bytes. An error is want of memory.
 pub fn begins_next_command(alloc: Global, len: usize, line: &[u8]) -> Result<bool, AllocError>
-    ensures { IfOk result (λ can. IsTrue can ↔ Begins (Spells (command_text_in Script) (Passes IsCarried (λ c. has_room len (record_len c)))) line.now) }
+    ensures { IfOk result (λ can. IsTrue can
+        ↔ Begins (Spells (command_text_in Script) (Passes IsCarried (λ c.
+        has_room len (record_len c)))) line.now) }
 {
     if len > MOST_SCRIPT {
         return Ok(false);
@@ -26,7 +28,8 @@ pub fn begins_next_command(alloc: Global, len: usize, line: &[u8]) -> Result<boo
 
 /// Whether the line of a command whose record has so many bytes at most begins with these bytes.
 fn begins_command(alloc: Global, room: usize, line: &[u8]) -> Result<bool, AllocError>
-    ensures { IfOk result (λ can. IsTrue can ↔ Begins (Spells (command_text_in Script) (HasRoom room)) line.now) }
+    ensures { IfOk result (λ can. IsTrue can
+        ↔ Begins (Spells (command_text_in Script) (HasRoom room)) line.now) }
 {
     if begins_plain(room, line) || begins_reference(room, line) || begins_reset(room, line) {
         return Ok(true);
@@ -36,7 +39,8 @@ fn begins_command(alloc: Global, room: usize, line: &[u8]) -> Result<bool, Alloc
 
 /// The same of a command of one word.
 fn begins_plain(room: usize, line: &[u8]) -> bool
-    ensures { IsTrue result ↔ Begins (Spells (command_text_in Script) (HasRoomAs is_plain room)) line.now }
+    ensures { IsTrue result ↔ Begins
+        (Spells (command_text_in Script) (HasRoomAs is_plain room)) line.now }
 {
     if room < 8 {
         return false;
@@ -49,7 +53,8 @@ fn begins_plain(room: usize, line: &[u8]) -> bool
 
 /// The same of a command of handles or a slice alone.
 fn begins_reference(room: usize, line: &[u8]) -> bool
-    ensures { IsTrue result ↔ Begins (Spells (command_text_in Script) (HasRoomAs is_reference room)) line.now }
+    ensures { IsTrue result ↔ Begins
+        (Spells (command_text_in Script) (HasRoomAs is_reference room)) line.now }
 {
     if room < 16 {
         return false;
@@ -65,14 +70,16 @@ fn begins_reference(room: usize, line: &[u8]) -> bool
 
 /// The same of a PEER_RESET.
 fn begins_reset(room: usize, line: &[u8]) -> bool
-    ensures { IsTrue result ↔ Begins (Spells (command_text_in Script) (HasRoomAs is_reset room)) line.now }
+    ensures { IsTrue result ↔ Begins
+        (Spells (command_text_in Script) (HasRoomAs is_reset room)) line.now }
 {
     room >= 24 && begins_limits(line)
 }
 
 /// Whether the line of a PEER_RESET begins with these bytes.
 fn begins_limits(line: &[u8]) -> bool
-    ensures { IsTrue result ↔ Begins (Spells (λ l. codes "reset " ++ limits_text l) AreLimits) line.now }
+    ensures { IsTrue result ↔ Begins (Spells (λ l. codes "reset "
+        ++ limits_text l) AreLimits) line.now }
 {
     let limit = Kind::One(Item::UpTo(u32::MAX as u64));
     begins_line(b' ', &[Kind::Fixed("reset"), limit, limit, limit], line)
@@ -91,7 +98,8 @@ fn most_handles(room: usize) -> u64
 
 /// The same of a SEND.
 fn begins_send(alloc: Global, room: usize, line: &[u8]) -> Result<bool, AllocError>
-    ensures { IfOk result (λ can. IsTrue can ↔ Begins (Spells (command_text_in Script) (HasRoomAs is_send room)) line.now) }
+    ensures { IfOk result (λ can. IsTrue can
+        ↔ Begins (Spells (command_text_in Script) (HasRoomAs is_send room)) line.now) }
 {
     if room < 24 {
         return Ok(false);
@@ -104,7 +112,8 @@ fn begins_send(alloc: Global, room: usize, line: &[u8]) -> Result<bool, AllocErr
 
 /// Whether a SEND of this flag begins with these bytes, where so many bytes are left for its lists and its payload.
 fn begins_flag(alloc: Global, word: &str, room: usize, line: &[u8]) -> Result<bool, AllocError>
-    ensures { IfOk result (λ can. IsTrue can ↔ Begins (Spells (λ x. word.now ++ load_text x) (IsLoad room)) line.now) }
+    ensures { IfOk result (λ can. IsTrue can
+        ↔ Begins (Spells (λ x. word.now ++ load_text x) (IsLoad room)) line.now) }
 {
     match behind(word, line) {
         Some(rest) => begins_load(alloc, room, rest),

@@ -9,7 +9,8 @@ use b1_text_words::{Item, Numbers, begins_item, begins_list, begins_text};
 
 /// Whether a text of this word and an item begins with these bytes.
 pub fn begins_one(word: &str, item: Item, line: &[u8]) -> bool
-    ensures { IsTrue result ↔ Begins (Spells (λ n. word.now ++ item_text item n) (IsItem item)) line.now }
+    ensures { IsTrue result ↔ Begins (Spells (λ n. word.now
+        ++ item_text item n) (IsItem item)) line.now }
 {
     match behind(word, line) {
         Some(rest) => begins_item(item, rest),
@@ -19,7 +20,8 @@ pub fn begins_one(word: &str, item: Item, line: &[u8]) -> bool
 
 /// Whether a text of this word and a list of at most so many begins with these bytes.
 pub fn begins_several(word: &str, item: Item, most: u64, line: &[u8]) -> bool
-    ensures { IsTrue result ↔ Begins (Spells (λ ns. word.now ++ list_text (item_text item) ns) (AreItems item most)) line.now }
+    ensures { IsTrue result ↔ Begins (Spells (λ ns. word.now
+        ++ list_text (item_text item) ns) (AreItems item most)) line.now }
 {
     match behind(word, line) {
         Some(rest) => begins_list(item, most, rest),
@@ -41,7 +43,8 @@ pub fn begins_decimal(number: u64, word: &[u8]) -> bool
 
 /// Whether a text of this word and this number begins with these bytes.
 pub fn begins_number(word: &str, number: u64, line: &[u8]) -> bool
-    ensures { IsTrue result ↔ Begins (Spells (λ n. word.now ++ decimal n) (λ n. n ≡ number)) line.now }
+    ensures { IsTrue result ↔ Begins (Spells (λ n. word.now ++ decimal n) (λ n. n
+        ≡ number)) line.now }
 {
     match behind(word, line) {
         Some(rest) => begins_decimal(number, rest),

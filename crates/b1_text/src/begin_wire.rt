@@ -16,7 +16,8 @@ use b1_text_words::{Item, Numbers, begins_item, begins_text, split};
 pub fn begins_next_wire(opening: &Opening, held: &Held, len: usize, line: &[u8]) -> bool
     requires peers { length opening.now.peers ≤ 64 }
     requires few { AreFew held.now }
-    ensures { IsTrue result ↔ Begins (Spells wire_text (Passes HasWireFields (λ w. can_wire (length opening.now.peers) held.now w && has_room len wire_len))) line.now }
+    ensures { IsTrue result ↔ Begins (Spells wire_text (Passes HasWireFields (λ w.
+        can_wire (length opening.now.peers) held.now w && has_room len wire_len))) line.now }
 {
     let peers = opening.peers.len();
     peers >= 2 && has_room(len, WIRE_LEN) && begins_wire(peers as u32, held, line)
@@ -27,7 +28,8 @@ fn begins_wire(peers: u32, held: &Held, line: &[u8]) -> bool
     requires some { 2 ≤ peers }
     requires peers { peers ≤ 64 }
     requires few { AreFew held.now }
-    ensures { IsTrue result ↔ Begins (Spells wire_text (Passes HasWireFields (can_wire peers held.now))) line.now }
+    ensures { IsTrue result ↔ Begins
+        (Spells wire_text (Passes HasWireFields (can_wire peers held.now))) line.now }
 {
     match behind("wire ", line) {
         Some(rest) => begins_from(peers, held, rest),
@@ -39,7 +41,8 @@ fn begins_from(peers: u32, held: &Held, line: &[u8]) -> bool
     requires some { 2 ≤ peers }
     requires peers { peers ≤ 64 }
     requires few { AreFew held.now }
-    ensures { IsTrue result ↔ Begins (Spells wire_body (Passes HasWireFields (can_wire peers held.now))) line.now }
+    ensures { IsTrue result ↔ Begins
+        (Spells wire_body (Passes HasWireFields (can_wire peers held.now))) line.now }
 {
     let Some((first, rest)) = split(line, b' ') else {
         return begins_item(Item::UpTo(peers as u64 - 1), line);
@@ -55,7 +58,8 @@ fn begins_end(peers: u32, held: &Held, from: u32, line: &[u8]) -> bool
     requires peers { peers ≤ 64 }
     requires from { from < peers }
     requires few { AreFew held.now }
-    ensures { IsTrue result ↔ Begins (Spells end_body (Passes IsEnd (λ x. can_wire peers held.now (record { from = from; to = x.1; number = x.0 })))) line.now }
+    ensures { IsTrue result ↔ Begins (Spells end_body (Passes IsEnd (λ x.
+        can_wire peers held.now (record { from = from; to = x.1; number = x.0 })))) line.now }
 {
     let Some((first, rest)) = split(line, b' ') else {
         return begins_own(line);
@@ -80,7 +84,8 @@ fn begins_own(word: &[u8]) -> bool
 
 /// Whether the number of a peer to which such a wire can be made begins with these bytes.
 fn begins_to(peers: u32, held: &Held, from: u32, number: u64, word: &[u8]) -> bool
-    ensures { IsTrue result ↔ Begins (Spells decimal (Passes Is32 (λ to. can_wire peers held.now (record { from = from; to = to; number = number })))) word.now }
+    ensures { IsTrue result ↔ Begins (Spells decimal (Passes Is32 (λ to.
+        can_wire peers held.now (record { from = from; to = to; number = number })))) word.now }
 {
     for to in 0..peers {
         let wire = Wire { from, to, number };

@@ -38,7 +38,8 @@ pub fn can_become_next(alloc: Global, draft: &Draft, line: &[u8]) -> Result<bool
 }
 
 fn begins_clock(line: &[u8]) -> bool
-    ensures { IsTrue result ↔ Begins (Spells (λ n. codes "clock " ++ decimal n) (Passes Is64 is_first_clock)) line.now }
+    ensures { IsTrue result ↔ Begins (Spells (λ n. codes "clock "
+        ++ decimal n) (Passes Is64 is_first_clock)) line.now }
 {
     let clocks = Numbers {
         least: 0,
@@ -60,7 +61,8 @@ fn begins_opened(opening: &Opening, held: &Held, len: usize, line: &[u8]) -> boo
 }
 
 fn begins_next_peer(opening: &Opening, len: usize, line: &[u8]) -> bool
-    ensures { IsTrue result ↔ Begins (Spells peer_text (Passes IsSpec (λ p. can_peer opening.now p && has_room len (peer_len opening.now)))) line.now }
+    ensures { IsTrue result ↔ Begins (Spells peer_text (Passes IsSpec (λ p. can_peer opening.now p
+        && has_room len (peer_len opening.now)))) line.now }
 {
     opening.wires.len() == 0
         && opening.peers.len() < MOST_FILE_PEERS
@@ -90,14 +92,18 @@ fn begins_spec(line: &[u8]) -> bool
 }
 
 fn begins_first_list(opening: &Opening, line: &[u8]) -> bool
-    ensures { IsTrue result ↔ Begins (Spells (λ n. codes "commands " ++ decimal n) (Passes Is32 (λ n. (n == 0) && nat_lt 0 (length opening.now.peers)))) line.now }
+    ensures { IsTrue result ↔ Begins (Spells (λ n. codes "commands "
+        ++ decimal n) (Passes Is32 (λ n. (n == 0)
+        && nat_lt 0 (length opening.now.peers)))) line.now }
 {
     opening.peers.len() > 0 && begins_number("commands ", 0, line)
 }
 
 fn begins_list(opening: &Opening, lists: usize, line: &[u8]) -> bool
     requires { lists < 64 }
-    ensures { IsTrue result ↔ Begins (Spells (λ n. codes "commands " ++ decimal n) (Passes Is32 (λ n. (n == lists + 1) && nat_lt n (length opening.now.peers)))) line.now }
+    ensures { IsTrue result ↔ Begins (Spells (λ n. codes "commands "
+        ++ decimal n) (Passes Is32 (λ n. (n == lists + 1)
+        && nat_lt n (length opening.now.peers)))) line.now }
 {
     let next = lists + 1;
     next < opening.peers.len() && begins_number("commands ", next as u64, line)
@@ -105,7 +111,9 @@ fn begins_list(opening: &Opening, lists: usize, line: &[u8]) -> bool
 
 fn begins_turns(opening: &Opening, lists: usize, len: usize, line: &[u8]) -> bool
     requires { lists < 64 }
-    ensures { IsTrue result ↔ Begins (Spells (λ ns. codes "turns " ++ list_text decimal ns) (Passes AreTurns (λ ns. can_turn opening.now (lists + 1) ns && has_room len (turns_len (length ns))))) line.now }
+    ensures { IsTrue result ↔ Begins (Spells (λ ns. codes "turns "
+        ++ list_text decimal ns) (Passes AreTurns (λ ns. can_turn opening.now (lists + 1) ns
+        && has_room len (turns_len (length ns))))) line.now }
 {
     if lists + 1 != opening.peers.len() || len > MOST_SCRIPT {
         return false;
@@ -123,7 +131,8 @@ fn begins_listing(
     line: &[u8],
 ) -> Result<bool, AllocError>
     requires { length lists.now < 64 }
-    ensures { IfOk result (λ can. IsTrue can ↔ Begins (IsNext (Listing opening.now lists.now _list.now len)) line.now) }
+    ensures { IfOk result (λ can. IsTrue can
+        ↔ Begins (IsNext (Listing opening.now lists.now _list.now len)) line.now) }
 {
     let before = lists.len();
     if begins_list(opening, before, line) || begins_turns(opening, before, len, line) {

@@ -12,7 +12,8 @@ use b1_text_words::{Form, Item, read_item, split};
 
 /// What stands in a line behind these bytes; `None` where it doesn't begin with them.
 pub fn behind<'a>(word: &str, line: &'a [u8]) -> Option<&'a [u8]>
-    ensures { MatchOption result ((rest : List ℕ) → line.now ≢ word.now ++ rest) (λ rest. line.now ≡ word.now ++ rest.now) }
+    ensures { MatchOption result ((rest : List ℕ)
+        → line.now ≢ word.now ++ rest) (λ rest. line.now ≡ word.now ++ rest.now) }
 {
     line.strip_prefix(word.as_bytes())
 }

@@ -23,7 +23,8 @@ pub(crate) fn write_script(out: &mut String, script: &Script) -> Result<(), Allo
 }
 
 fn write_opening(out: &mut String, script: &Script) -> Result<(), AllocError>
-    ensures { OnOk result (string_bytes out.new ≡ string_bytes out.old ++ flat_map line_text (opening_statements script.now)) }
+    ensures { OnOk result (string_bytes out.new ≡ string_bytes out.old
+        ++ flat_map line_text (opening_statements script.now)) }
 {
     write!(out, "bus1 script 1\nclock {}\n", script.opening.first_clock)?;
     write_peers(out, script.opening.peers.as_slice())?;
@@ -31,7 +32,8 @@ fn write_opening(out: &mut String, script: &Script) -> Result<(), AllocError>
 }
 
 fn write_peers(out: &mut String, peers: &[PeerSpec]) -> Result<(), AllocError>
-    ensures { OnOk result (string_bytes out.new ≡ string_bytes out.old ++ flat_map (λ p. line_text (says.Peer p)) peers.now) }
+    ensures { OnOk result (string_bytes out.new ≡ string_bytes out.old
+        ++ flat_map (λ p. line_text (says.Peer p)) peers.now) }
 {
     for peer in peers {
         write_peer(out, peer)?;
@@ -40,7 +42,8 @@ fn write_peers(out: &mut String, peers: &[PeerSpec]) -> Result<(), AllocError>
 }
 
 fn write_peer(out: &mut String, peer: &PeerSpec) -> Result<(), AllocError>
-    ensures { OnOk result (string_bytes out.new ≡ string_bytes out.old ++ line_text (says.Peer peer.now)) }
+    ensures { OnOk result (string_bytes out.new ≡ string_bytes out.old
+        ++ line_text (says.Peer peer.now)) }
 {
     write!(
         out,
@@ -50,7 +53,8 @@ fn write_peer(out: &mut String, peer: &PeerSpec) -> Result<(), AllocError>
 }
 
 fn write_wires(out: &mut String, wires: &[Wire]) -> Result<(), AllocError>
-    ensures { OnOk result (string_bytes out.new ≡ string_bytes out.old ++ flat_map (λ w. line_text (says.Wire w)) wires.now) }
+    ensures { OnOk result (string_bytes out.new ≡ string_bytes out.old
+        ++ flat_map (λ w. line_text (says.Wire w)) wires.now) }
 {
     for wire in wires {
         write_wire(out, wire)?;
@@ -59,7 +63,8 @@ fn write_wires(out: &mut String, wires: &[Wire]) -> Result<(), AllocError>
 }
 
 fn write_wire(out: &mut String, wire: &Wire) -> Result<(), AllocError>
-    ensures { OnOk result (string_bytes out.new ≡ string_bytes out.old ++ line_text (says.Wire wire.now)) }
+    ensures { OnOk result (string_bytes out.new ≡ string_bytes out.old
+        ++ line_text (says.Wire wire.now)) }
 {
     write!(out, "wire {} ", wire.from)?;
     write_item(out, Item::Handle(Form::Script), wire.number)?;
@@ -68,7 +73,8 @@ fn write_wire(out: &mut String, wire: &Wire) -> Result<(), AllocError>
 
 fn write_lists(out: &mut String, lists: &[Commands]) -> Result<(), AllocError>
     requires { AllByRecursion (AllByRecursion IsWithin) lists.now }
-    ensures { OnOk result (string_bytes out.new ≡ string_bytes out.old ++ flat_map line_text (lists_statements lists.now)) }
+    ensures { OnOk result (string_bytes out.new ≡ string_bytes out.old
+        ++ flat_map line_text (lists_statements lists.now)) }
 {
     for (number, commands) in lists.iter().enumerate() {
         write_list(out, number, commands)?;
@@ -78,7 +84,8 @@ fn write_lists(out: &mut String, lists: &[Commands]) -> Result<(), AllocError>
 
 fn write_list(out: &mut String, number: usize, commands: &Commands) -> Result<(), AllocError>
     requires { AllByRecursion IsWithin commands.now }
-    ensures { OnOk result (string_bytes out.new ≡ string_bytes out.old ++ flat_map line_text (list_statements (number, commands.now))) }
+    ensures { OnOk result (string_bytes out.new ≡ string_bytes out.old
+        ++ flat_map line_text (list_statements (number, commands.now))) }
 {
     write!(out, "commands {number}\n")?;
     write_commands(out, commands.as_slice())
@@ -86,7 +93,8 @@ fn write_list(out: &mut String, number: usize, commands: &Commands) -> Result<()
 
 fn write_commands(out: &mut String, commands: &[Command]) -> Result<(), AllocError>
     requires { AllByRecursion IsWithin commands.now }
-    ensures { OnOk result (string_bytes out.new ≡ string_bytes out.old ++ flat_map (λ c. line_text (says.Command c)) commands.now) }
+    ensures { OnOk result (string_bytes out.new ≡ string_bytes out.old
+        ++ flat_map (λ c. line_text (says.Command c)) commands.now) }
 {
     for command in commands {
         write_command_line(out, command)?;
@@ -96,14 +104,16 @@ fn write_commands(out: &mut String, commands: &[Command]) -> Result<(), AllocErr
 
 fn write_command_line(out: &mut String, command: &Command) -> Result<(), AllocError>
     requires { IsWithin command.now }
-    ensures { OnOk result (string_bytes out.new ≡ string_bytes out.old ++ line_text (says.Command command.now)) }
+    ensures { OnOk result (string_bytes out.new ≡ string_bytes out.old
+        ++ line_text (says.Command command.now)) }
 {
     write_command(out, Form::Script, command)?;
     out.push_str("\n")
 }
 
 fn write_turns(out: &mut String, turns: &[u32]) -> Result<(), AllocError>
-    ensures { OnOk result (string_bytes out.new ≡ string_bytes out.old ++ line_text (says.Turns turns.now)) }
+    ensures { OnOk result (string_bytes out.new ≡ string_bytes out.old
+        ++ line_text (says.Turns turns.now)) }
 {
     out.push_str("turns ")?;
     write_numbers(out, turns)?;
@@ -112,7 +122,8 @@ fn write_turns(out: &mut String, turns: &[u32]) -> Result<(), AllocError>
 
 /// The peers of turns.
 fn write_numbers(out: &mut String, numbers: &[u32]) -> Result<(), AllocError>
-    ensures { OnOk result (string_bytes out.new ≡ string_bytes out.old ++ list_text decimal numbers.now) }
+    ensures { OnOk result (string_bytes out.new ≡ string_bytes out.old
+        ++ list_text decimal numbers.now) }
 {
     let [first, rest @ ..] = numbers else {
         return out.push_str("-");

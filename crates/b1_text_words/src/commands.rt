@@ -36,7 +36,8 @@ pub fn read_command(alloc: Global, form: Form, line: &[u8]) -> Result<Option<Com
 
 /// What stands behind this text.
 pub(crate) fn behind<'a>(text: &str, line: &'a [u8]) -> Option<&'a [u8]>
-    ensures { MatchOption result (IsNotBehind text.now line.now) (λ rest. line.now ≡ text.now ++ rest.now) }
+    ensures { MatchOption result (IsNotBehind text.now line.now) (λ rest. line.now ≡ text.now
+        ++ rest.now) }
 {
     line.strip_prefix(text.as_bytes())
 }
@@ -114,7 +115,8 @@ fn read_limits(line: &[u8]) -> Option<Limits>
 }
 
 fn read_destroy(alloc: Global, form: Form, rest: &[u8]) -> Result<Option<Command>, AllocError>
-    ensures { IfOk result (λ r. Reads (command_text_in form) (IsCommand form) (codes "destroy " ++ rest.now) r) }
+    ensures { IfOk result (λ r. Reads (command_text_in form) (IsCommand form) (codes "destroy "
+        ++ rest.now) r) }
 {
     match read_list(alloc, Item::Handle(form), most_numbers(form), rest)? {
         Some(numbers) => Ok(Some(Command::Destroy { numbers })),
@@ -123,7 +125,8 @@ fn read_destroy(alloc: Global, form: Form, rest: &[u8]) -> Result<Option<Command
 }
 
 fn read_send(alloc: Global, form: Form, rest: &[u8]) -> Result<Option<Command>, AllocError>
-    ensures { IfOk result (λ r. Reads (command_text_in form) (IsCommand form) (codes "send " ++ rest.now) r) }
+    ensures { IfOk result (λ r. Reads (command_text_in form) (IsCommand form) (codes "send "
+        ++ rest.now) r) }
 {
     let Some((go_on, rest)) = send_flag(rest) else {
         return Ok(None);
@@ -164,7 +167,8 @@ fn send_flag(line: &[u8]) -> Option<(bool, &[u8])>
 
 /// The destinations, the carried handles and the bytes of a SEND, each as a word.
 fn send_words(line: &[u8]) -> Option<(&[u8], &[u8], &[u8])>
-    ensures { MatchOption result (IsNoSend line.now) (λ x. AreSendWords x.0.now x.1.now x.2.now line.now) }
+    ensures { MatchOption result (IsNoSend line.now) (λ x.
+        AreSendWords x.0.now x.1.now x.2.now line.now) }
 {
     let Some((to, rest)) = split(line, b' ') else {
         return None;

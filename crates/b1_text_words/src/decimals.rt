@@ -32,7 +32,8 @@ fn has_no_number(word: &[u8]) -> bool
 #[tactic(auto, using(crate::proofs::Digits::no_text, std::proofs::lemmas::Str::Parse::without_leading_plus_none))]
 fn read_digits(word: &[u8]) -> Option<u64>
     requires { slice_index word.now 0 ≢ 43 }
-    ensures { SomeIff result (IsNumeral 10 word.now × (digits_value 10 word.now < 2 ^ 64)) (digits_value 10 word.now) }
+    ensures { SomeIff result (IsNumeral 10 word.now
+        × (digits_value 10 word.now < 2 ^ 64)) (digits_value 10 word.now) }
 {
     let Ok(text) = std::str::from_utf8(word) else {
         return None;

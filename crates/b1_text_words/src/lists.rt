@@ -15,7 +15,8 @@ pub fn read_list(
     most: u64,
     word: &[u8],
 ) -> Result<Option<Nums>, AllocError>
-    ensures { IfOk result (λ r. Reads (list_text (item_text item)) (AreItems item most) word.now r) }
+    ensures { IfOk result (λ r.
+        Reads (list_text (item_text item)) (AreItems item most) word.now r) }
 {
     is_bounded(item);
     if is_text("-", word) {
@@ -82,7 +83,8 @@ fn fits_some(item: Item, most: u64, word: &[u8]) -> bool
 
 /// Whether a list of at most so many begins with these bytes.
 pub fn begins_list(item: Item, most: u64, word: &[u8]) -> bool
-    ensures { IsTrue result ↔ Begins (Spells (list_text (item_text item)) (AreItems item most)) word.now }
+    ensures { IsTrue result ↔ Begins
+        (Spells (list_text (item_text item)) (AreItems item most)) word.now }
 {
     is_bounded(item);
     if begins_text("-", word) {

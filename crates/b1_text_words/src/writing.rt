@@ -35,7 +35,8 @@ fn write_known(out: &mut String, number: u64) -> Result<(), AllocError>
 
 /// A number, or a reference to a slot of a receipt.
 fn write_handle(out: &mut String, number: u64) -> Result<(), AllocError>
-    ensures { OnOk result (string_bytes out.new ≡ string_bytes out.old ++ script_handle_text number) }
+    ensures { OnOk result (string_bytes out.new ≡ string_bytes out.old
+        ++ script_handle_text number) }
 {
     if number % 2 == 1 {
         let receipt = number / 128;
@@ -48,7 +49,8 @@ fn write_handle(out: &mut String, number: u64) -> Result<(), AllocError>
 
 /// An offset, or a reference to a receipt.
 fn write_offset(out: &mut String, number: u64) -> Result<(), AllocError>
-    ensures { OnOk result (string_bytes out.new ≡ string_bytes out.old ++ script_offset_text number) }
+    ensures { OnOk result (string_bytes out.new ≡ string_bytes out.old
+        ++ script_offset_text number) }
 {
     if number % 2 == 1 {
         let receipt = number / 2;
@@ -60,7 +62,8 @@ fn write_offset(out: &mut String, number: u64) -> Result<(), AllocError>
 
 /// Appends a list of numbers of a kind. An error is want of memory.
 pub fn write_list(out: &mut String, item: Item, numbers: &[u64]) -> Result<(), AllocError>
-    ensures { OnOk result (string_bytes out.new ≡ string_bytes out.old ++ list_text (item_text item) numbers.now) }
+    ensures { OnOk result (string_bytes out.new ≡ string_bytes out.old
+        ++ list_text (item_text item) numbers.now) }
 {
     let [first, rest @ ..] = numbers else {
         return out.push_str("-");
@@ -102,7 +105,8 @@ fn digit(value: u8) -> char
 /// Appends a command of this form, without a line feed. An error is want of memory.
 pub fn write_command(out: &mut String, form: Form, command: &Command) -> Result<(), AllocError>
     requires { HasWords form command.now }
-    ensures { OnOk result (string_bytes out.new ≡ string_bytes out.old ++ command_text_in form command.now) }
+    ensures { OnOk result (string_bytes out.new ≡ string_bytes out.old
+        ++ command_text_in form command.now) }
 {
     match command {
         Command::Disconnect => out.push_str("disconnect"),
@@ -132,7 +136,8 @@ pub fn write_command(out: &mut String, form: Form, command: &Command) -> Result<
 }
 
 fn write_send(out: &mut String, form: Form, send: &SendCmd) -> Result<(), AllocError>
-    ensures { OnOk result (string_bytes out.new ≡ string_bytes out.old ++ send_text_in form send.now) }
+    ensures { OnOk result (string_bytes out.new ≡ string_bytes out.old
+        ++ send_text_in form send.now) }
 {
     out.push_str("send ")?;
     out.push_str(if send.go_on { "1 to " } else { "0 to " })?;
