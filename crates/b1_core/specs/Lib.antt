@@ -2,3 +2,8 @@ pub mod Shown
 pub mod Turns
 pub mod Bus
 pub mod Wiring
+pub use Rattle.b1_event.specs.Events
+pub use Rattle.b1_model.specs.MachineOrder
+pub use Rattle.b1_model.specs.MachineStep
+pub use Rattle.b1_model.specs.Opening
+pub use Rattle.b1_model.specs.Script

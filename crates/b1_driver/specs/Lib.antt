@@ -1,2 +1,6 @@
 pub mod Stages
 pub mod Parts
+pub use Rattle.b1_model.specs.MachineDriver
+pub use Rattle.b1_model.specs.MachineEvents
+pub use Rattle.b1_model.specs.MachineStep
+pub use Rattle.b1_model.specs.MachineTook

@@ -1,2 +1,5 @@
 pub mod Handles
 pub mod Least
+pub use Rattle.b1_model.specs.MachineDestroy
+pub use Rattle.b1_model.specs.MachineParts
+pub use Rattle.b1_model.specs.MachineTables

@@ -1,6 +1,6 @@
 -- How large nodes, given numbers, held handles and counts can be, by the wires and the calls.
 use Rattle.std.specs.Prelude.{◌≤◌, ◌*◌, ℕ, ◌+◌, Bool, true, false, if◌then◌else◌, length, Some, None, sum_by}
-use Rattle.b1_model.specs.declared.limits.TheConstants.{MOST_HANDLES}
+use Rattle.b1_model.specs.declared.limits.TheConstants.{MOST_DESTINATIONS, MOST_HANDLES}
 use Rattle.b1_model.specs.declared.naming.Key.{Key}
 use Rattle.b1_model.specs.declared.naming.Opening.{Opening}
 use Rattle.b1_model.specs.declared.entries.Entry.{Entry}
@@ -20,23 +20,27 @@ is_unanswered d = elim d.doing [ None ↦ false | Some doing ↦ elim (answer_of
 abbrev pub calls_begun : DriverPart → ℕ
 calls_begun d = length (driver_calls d) + (if is_unanswered d then 1 else 0)
 
--- 64 for each call of a driver, and one for each wire
-abbrev pub call_bound : Opening → DriverPart → ℕ
-call_bound o d = length o.wires + 64 * calls_begun d
+-- the most slots of a SEND: each carried handle at each place
+abbrev pub most_attaches : ℕ
+most_attaches = MOST_DESTINATIONS * MOST_HANDLES
 
--- 4,096 for each call of all drivers, and one for each wire
+-- the most handles of a SEND for each call of a driver, and one for each wire
+abbrev pub call_bound : Opening → DriverPart → ℕ
+call_bound o d = length o.wires + MOST_HANDLES * calls_begun d
+
+-- the most slots of a SEND for each call of all drivers, and one for each wire
 abbrev pub all_calls_bound : Opening → State → ℕ
-all_calls_bound o s = length o.wires + sum_by (λ d. 4096 * calls_begun d) s.drivers
+all_calls_bound o s = length o.wires + sum_by (λ d. most_attaches * calls_begun d) s.drivers
 
 -- how many attaches an open SEND without a stamp has done at most
 abbrev pub attaches : Phase → ℕ
-attaches (Attaching sending place slot) = 64 * place + slot
-attaches (Stamping sending) = 4096
+attaches (Attaching sending place slot) = MOST_HANDLES * place + slot
+attaches (Stamping sending) = most_attaches
 attaches phase = 0
 
--- 4,096 for each call of a driver, and what the open one without an answer has done
+-- the most slots of a SEND for each call of a driver, and what the open one without an answer has done
 abbrev pub attach_bound : DriverPart → ℕ
-attach_bound d = 4096 * length (driver_calls d) + elim d.doing [ None ↦ 0 | Some doing ↦ attaches doing.phase ]
+attach_bound d = most_attaches * length (driver_calls d) + elim d.doing [ None ↦ 0 | Some doing ↦ attaches doing.phase ]
 
 -- the same of all drivers, and one for each wire
 abbrev pub all_attaches_bound : Opening → State → ℕ

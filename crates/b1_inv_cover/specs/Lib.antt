@@ -1,2 +1,8 @@
 pub mod Bounded
 pub mod Given
+pub use Rattle.b1_inv.specs.Sound
+pub use Rattle.b1_inv_record.specs.Right
+pub use Rattle.b1_model.specs.MachineParts
+pub use Rattle.b1_model.specs.MachineStep
+pub use Rattle.b1_model.specs.Opening
+pub use Rattle.b1_step.specs.Laws

@@ -4,3 +4,6 @@ pub mod Stamps
 pub mod Candidates
 pub mod Contents
 pub mod Judged
+pub use Rattle.b1_model.specs.Legal
+pub use Rattle.b1_model.specs.Opening
+pub use Rattle.b1_model.specs.Script

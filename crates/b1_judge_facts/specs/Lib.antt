@@ -6,3 +6,7 @@ pub mod Start
 pub mod Gathering
 pub mod Walks
 pub mod Orders
+pub use Rattle.b1_model.specs.Ledger
+pub use Rattle.b1_model.specs.Legal
+pub use Rattle.b1_model.specs.Names
+pub use Rattle.b1_model.specs.Opening

@@ -1,3 +1,7 @@
 pub mod Counts
 pub mod Doom
 pub mod Nodes
+pub use Rattle.b1_model.specs.MachineDestroy
+pub use Rattle.b1_model.specs.MachineParts
+pub use Rattle.b1_model.specs.MachineTables
+pub use Rattle.b1_model.specs.Names

@@ -1,1 +1,2 @@
 pub mod Dead
+pub use Rattle.b1_model.specs.MachineReceive

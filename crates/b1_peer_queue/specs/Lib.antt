@@ -1,3 +1,12 @@
 pub mod Mail
 pub mod Rows
 pub mod Charged
+pub use Rattle.b1_entry.specs.Table
+pub use Rattle.b1_model.specs.Keys
+pub use Rattle.b1_model.specs.MachineParts
+pub use Rattle.b1_model.specs.MachineSend
+pub use Rattle.b1_model.specs.MachineTables
+pub use Rattle.b1_queue.specs.Queue
+pub use Rattle.b1_quota.specs.Accounts
+pub use Rattle.b1_step.specs.Ordered
+pub use Rattle.b1_step.specs.Rights

@@ -3,3 +3,8 @@ pub mod Rounds
 pub mod Draining
 pub mod Shown
 pub mod Plays
+pub use Rattle.b1_core.specs.Turns
+pub use Rattle.b1_model.specs.MachineDriver
+pub use Rattle.b1_model.specs.Opening
+pub use Rattle.b1_schedule.specs.Schedule
+pub use Rattle.b1_schedule.specs.Shortage

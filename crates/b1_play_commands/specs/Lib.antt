@@ -1,1 +1,9 @@
 pub mod Following
+pub use Rattle.b1_inv.specs.Sound
+pub use Rattle.b1_model.specs.MachineParts
+pub use Rattle.b1_model.specs.MachineStep
+pub use Rattle.b1_model.specs.Names
+pub use Rattle.b1_model.specs.Opening
+pub use Rattle.b1_model.specs.Script
+pub use Rattle.b1_schedule.specs.Schedule
+pub use Rattle.b1_schedule.specs.Shortage

@@ -1,2 +1,3 @@
 pub mod Accounts
 pub mod Charges
+pub use Rattle.b1_model.specs.MachineTables

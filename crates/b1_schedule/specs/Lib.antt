@@ -2,3 +2,8 @@ pub mod Shortage
 pub mod Schedule
 pub mod Agreement
 pub mod Played
+pub use Rattle.b1_inv.specs.Sends
+pub use Rattle.b1_model.specs.MachineOrder
+pub use Rattle.b1_model.specs.MachineParts
+pub use Rattle.b1_model.specs.MachineStep
+pub use Rattle.b1_step.specs.Fixed

@@ -4,3 +4,8 @@ pub mod Drafts
 pub mod Progress
 pub mod Bodies
 pub mod Nexts
+pub use Rattle.b1_records.specs.Reading
+pub use Rattle.b1_text_words.specs.Commands
+pub use Rattle.b1_text_words.specs.Items
+pub use Rattle.b1_text_words.specs.Numbers
+pub use Rattle.b1_text_words.specs.Words

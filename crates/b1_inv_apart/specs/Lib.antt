@@ -1,0 +1,4 @@
+pub use Rattle.b1_inv.specs.Apart
+pub use Rattle.b1_inv.specs.Kept
+pub use Rattle.b1_inv.specs.Notices
+pub use Rattle.b1_model.specs.MachineStep
