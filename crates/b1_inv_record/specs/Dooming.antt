@@ -1,6 +1,6 @@
 -- What an open destruction dooms: the nodes that its command names, or all nodes that aren't destroyed.
--- Preservation leans on (beside itself): FlushesDoomAll: nothing.  DoomsItsNodes: MadeNumbers, DestructionShape.
-use Rattle.std.specs.Prelude.{◌≡◌, ◌+◌, ℕ, Bool, true, false, if◌then◌else◌, List, [], ◌∷◌, map, get_or, Some}
+-- Preservation leans on (beside itself): FlushesDoomAll, FlushCommands: nothing.  DoomsItsNodes: MadeNumbers, DestructionShape.
+use Rattle.std.specs.Prelude.{◌≡◌, ◌+◌, ℕ, Bool, true, false, if◌then◌else◌, List, [], ◌∷◌, map, get_or, Option, Some}
 use Rattle.b1_model.specs.declared.commands.Command.TheVariants as cmd
 use Rattle.b1_model.specs.declared.events.Doing.{Doing}
 use Rattle.b1_model.specs.declared.events.Phase.{Phase}
@@ -41,3 +41,8 @@ pub record DoomsItsNodes (s : State) : Type 0 where
       → map (λ number. serial_of number x.nodes) numbers ≡ map Some (doomed_of doing.phase)
   pub flushed : (p : ℕ) (d : DriverPart) (x : PeerPart) (doing : Doing) → IsDriver s p d → IsPeer s p x → d.doing ≡ Some doing → is_flushing doing.command ≡ true → is_unstamped doing.phase ≡ true
       → undestroyed 0 x.nodes ≡ doomed_of doing.phase
+
+-- only a PEER_RESET or a PEER_DISCONNECT flushes
+pub record FlushCommands (s : State) : Type 0 where
+  pub flushes : (p : ℕ) (stamp : Option ℕ) (d : DriverPart) (doing : Doing) → IsDriver s p d → d.doing ≡ Some doing
+      → doing.phase ≡ Flushing stamp → is_flushing doing.command ≡ true

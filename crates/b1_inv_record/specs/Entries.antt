@@ -2,7 +2,7 @@
 -- Preservation leans on (beside itself): PendingIsStaged: OldNodesDestroyed.  QueuedIsPresent: OldNodesDestroyed.
 -- CommittedHasCall: BegunNames, MadeNumbers, TableIsLines, StagesRight.  EntryIsSomewhere: PendingIsStaged, GoneBelowQueue, BegunNames, MadeNumbers.
 -- GoneBelowQueue: CommittedBelowClock, ListedBelowClock, StagedKeysRight, StampsAboveCollected, OwnNotice, ForeignNotice.  PendingAboveTaken: ListedBelowClock, PendingIsStaged, StagedKeysRight.
-use Rattle.std.specs.Prelude.{◌≡◌, ◌≤◌, ◌⊎◌, ⊤, ℕ, true, false, map, slice_get, Some, None, option_map}
+use Rattle.std.specs.Prelude.{◌≡◌, ◌≤◌, ◌<◌, ◌⊎◌, ⊤, ℕ, true, false, map, slice_get, Some, None, option_map}
 use Rattle.std.specs.List.{All}
 use Rattle.b1_model.specs.declared.naming.Key.{Key}
 use Rattle.b1_model.specs.declared.naming.NodeRef.{NodeRef}
@@ -21,6 +21,7 @@ use Rattle.b1_model.specs.MachineEvents.{begun_of, collected_of}
 use Rattle.b1_model.specs.MachineStep.{record_of_state}
 use Rattle.b1_step.specs.Rights.{Has}
 use Rattle.b1_inv.specs.Words.{IsPeer, IsDriver, fixed_stamp, waits_at, is_pending}
+use Rattle.b1_inv_record.specs.Clocks.{is_own_notice}
 use Rattle.b1_inv_record.specs.Epochs.{first_now, first_done, epoch_now, epoch_of_node, ref_of, doom_key, is_unstaging, WasReceived}
 
 -- an accepted place of a SEND that still waits at a node of the present epoch has its staged message there
@@ -82,3 +83,8 @@ pub record GoneBelowQueue (o : Opening) (s : State) : Type 0 where
 pub record PendingAboveTaken (o : Opening) (s : State) : Type 0 where
   pub above : (p at k : ℕ) (d : DriverPart) (doing : Doing) (node : NodeRef) (c : Call) (key : Key) → IsDriver s p d → d.doing ≡ Some doing → slice_get (begun_of doing.phase).to at ≡ Some node → waits_at doing.phase at ≡ true → is_unstaging doing.phase ≡ false
       → slice_get (calls_of (record_of_state s) node.owner) k ≡ Some c → got_key c.answer ≡ Some key → epoch_at (record_of_state s) node.owner k ≡ epoch_of_node o s node → key.stamp ≤ collected_of doing.phase
+
+-- an own notice that is still staged when its destruction has a stamp is staged below it
+pub record NoticesBelowStamp (s : State) : Type 0 where
+  pub below : (p stamp : ℕ) (d : DriverPart) (x : PeerPart) (f : Key × Entry) → IsDriver s p d → IsPeer s p x
+      → fixed_stamp d ≡ Some stamp → Has x.queue f → is_staged f ≡ true → is_own_notice f.1 ≡ true → f.0.stamp < stamp

@@ -6,8 +6,8 @@ use Rattle.b1_model.specs.MachineStep.{record_of_state}
 use Rattle.b1_inv_record.specs.Parts.{KeysAscend, SerialsMade, PoolRight, RecordsNeeded, ReleaseNoticesRight, MarksRight}
 use Rattle.b1_inv_record.specs.Clocks.{CommittedBelowClock, ListedBelowClock, Synced, StampsAboveCollected, StagedKeysRight, OwedRight}
 use Rattle.b1_inv_record.specs.Names.{MadeNumbers, TableIsLines, BegunNames, OldNodesDestroyed, ShutIsEmpty, EpochCounted}
-use Rattle.b1_inv_record.specs.Entries.{PendingIsStaged, QueuedIsPresent, CommittedHasCall, EntryIsSomewhere, GoneBelowQueue, PendingAboveTaken}
-use Rattle.b1_inv_record.specs.Dooming.{FlushesDoomAll, DoomsItsNodes}
+use Rattle.b1_inv_record.specs.Entries.{PendingIsStaged, QueuedIsPresent, CommittedHasCall, EntryIsSomewhere, GoneBelowQueue, PendingAboveTaken, NoticesBelowStamp}
+use Rattle.b1_inv_record.specs.Dooming.{FlushesDoomAll, FlushCommands, DoomsItsNodes}
 use Rattle.b1_inv_record.specs.Numbers.{DestroysOwn}
 use Rattle.b1_inv_record.specs.Destructions.{DoomKeysRight, DyingIsDoomed, OwnNoticeRight, ForeignNoticeRight, TakenHasReceipt}
 use Rattle.b1_inv_record.specs.Holders.{HolderCovered, SeenTravels, SeenCollected, VoidRight}
@@ -47,11 +47,13 @@ pub record EntriesRight (o : Opening) (s : State) : Type 0 where
   pub somewhere : EntryIsSomewhere o s
   pub gone : GoneBelowQueue o s
   pub above : PendingAboveTaken o s
+  pub noticed : NoticesBelowStamp s
 
 -- destructions and their notices
 pub record DestructionsRight (o : Opening) (s : State) : Type 0 where
   pub numbers : DestroysOwn s
   pub all : FlushesDoomAll s
+  pub flushes : FlushCommands s
   pub doomed : DoomsItsNodes s
   pub keys : DoomKeysRight o s
   pub dying : DyingIsDoomed o s
