@@ -1,0 +1,2 @@
+pub mod FlushTurns
+pub mod Old
