@@ -303,7 +303,7 @@ module _ {o : Opening} {s : State} {p : ℕ} {c : Option Command} {t : State} (s
   abbrev new_left : List Call
   new_left = left_turn (parts step).command (turn step.driver.me (parts step).command (parts step).phase (going_answer step))
 
-  flushed_after : flushed_calls step.new_driver ≡ step.driver.calls ++ new_left
+  pub flushed_after : flushed_calls step.new_driver ≡ step.driver.calls ++ new_left
   flushed_after =
       ap flushed_calls (sym (parts step).is_driver)
       ∙ flushed_turned (parts step).command (with_facts (going step) (going_doing step) (going_answer step)) (turn step.driver.me (parts step).command (parts step).phase (going_answer step))

@@ -1,2 +1,5 @@
 pub mod FlushTurns
 pub mod Old
+pub mod Clears
+pub mod DeadHeld
+pub mod Receipts

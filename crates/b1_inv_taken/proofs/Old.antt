@@ -191,13 +191,13 @@ module _ {o : Opening} {s : State} {p : ℕ} {c : Option Command} {t : State} (s
   abbrev now : Phase
   now = (parts step).phase
 
-  calls_before : driver_calls step.driver ≡ step.driver.calls ++ fixed_call (parts step).command (answer_of (parts step).command now)
+  pub calls_before : driver_calls step.driver ≡ step.driver.calls ++ fixed_call (parts step).command (answer_of (parts step).command now)
   calls_before = elim (parts step).was [
     | inl open_is ↦ ap (λ z. step.driver.calls ++ open_by z) open_is
     | inr new ↦ ap (λ z. step.driver.calls ++ open_by z) new.0 ∙ ap (λ z. step.driver.calls ++ fixed_call (parts step).command (answer_of (parts step).command z)) (sym new.1)
   ]
 
-  calls_after : driver_calls step.new_driver ≡ step.driver.calls ++ open_turn (parts step).command (turn step.driver.me (parts step).command now (going_answer step))
+  pub calls_after : driver_calls step.new_driver ≡ step.driver.calls ++ open_turn (parts step).command (turn step.driver.me (parts step).command now (going_answer step))
   calls_after =
       ap driver_calls (sym (parts step).is_driver)
       ∙ turned_calls (with_facts (going step) (going_doing step) (going_answer step)) (parts step).command (turn step.driver.me (parts step).command now (going_answer step))

@@ -6,6 +6,7 @@ ghost use Rattle.b1_model.specs.MachineParts.{State};
 ghost use Rattle.b1_model.specs.MachineStep.{Step, opening_state};
 ghost use Rattle.b1_inv.specs.Sound.{IsSound};
 ghost use Rattle.b1_inv_record.specs.Names.{OldNodesDestroyed};
+ghost use Rattle.b1_inv_record.specs.Destructions.{TakenHasReceipt};
 ghost use Rattle.b1_inv_record.specs.Right.{IsRight};
 
 /// A step keeps the nodes of earlier epochs destroyed, and every bus begins so.
@@ -16,5 +17,17 @@ pub fn old_nodes_stay_destroyed()
     ensures kept_OldNodesDestroyed {
         (o : Opening) (s : State) (p : ℕ) (c : Option Command) (t : State) → IsSound o s → IsRight o s → Step o s p c t
             → OldNodesDestroyed o t
+    }
+{}
+
+/// A step keeps each notice that its peer took in the epoch of its part among the receipts of that epoch, and every bus
+/// begins so.
+pub fn taken_notices_stay_received()
+    ensures opening_TakenHasReceipt {
+        (o : Opening) → IsOpening o → TakenHasReceipt o (opening_state o)
+    }
+    ensures kept_TakenHasReceipt {
+        (o : Opening) (s : State) (p : ℕ) (c : Option Command) (t : State) → IsSound o s → IsRight o s → Step o s p c t
+            → TakenHasReceipt o t
     }
 {}

@@ -3,4 +3,4 @@
 
 mod laws;
 
-pub use laws::old_nodes_stay_destroyed;
+pub use laws::{old_nodes_stay_destroyed, taken_notices_stay_received};
