@@ -3,4 +3,4 @@
 
 mod laws;
 
-pub use laws::only_resets_flush;
+pub use laws::{only_resets_flush, open_destructions_doom_what_they_name};
