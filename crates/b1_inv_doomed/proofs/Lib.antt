@@ -1,0 +1,5 @@
+pub mod Named
+pub mod Turned
+pub mod Flushing
+pub mod Doomed
+pub mod DoomedKept
