@@ -1,0 +1,2 @@
+//! Where each entry of the record is, over every list of steps.
+#![tactic(auto)]
