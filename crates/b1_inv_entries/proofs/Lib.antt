@@ -1,2 +1,4 @@
 pub mod Answers
 pub mod NewCalls
+pub mod SameRecord
+pub mod BelowStamp

@@ -1,8 +1,6 @@
 -- The call that a step adds to the record: none, or one of the driver that does it, with the answer that the event's answer fixes.
 use Rattle.std.proofs.Common.{◌≡◌, ◌≢◌, ◌⊎◌, refl, sym, ap, subst, ◌∙◌, inl, inr, ℕ, Bool, true, false, cond, List, [], ◌∷◌, ◌++◌, length, Option, Some, None, append-nil}
-use Rattle.std.specs.Prelude.{slice_get}
 use Rattle.std.proofs.lemmas.Bool.{cases_eq}
-use Rattle.std.proofs.lemmas.List.{append_assoc}
 use native.Mathlib.Omega.{arith}
 use Rattle.b1_model.specs.declared.commands.Command.{Command}
 use Rattle.b1_model.specs.declared.naming.Opening.{Opening}
@@ -18,9 +16,9 @@ use Rattle.b1_step.proofs.Locality.{own_driver, other_driver, as_many_drivers, a
 use Rattle.b1_inv.specs.Sound.{IsSound}
 use Rattle.b1_ledger.specs.Growth.{Appends, Extends}
 use Rattle.b1_ledger.proofs.Grows.{extends_of}
-use Rattle.b1_inv_notices.proofs.Turns.{doing_in, Parts, parts, going, going_doing, going_answer}
+use Rattle.b1_inv_notices.proofs.Turns.{parts, going, going_doing, going_answer}
 use Rattle.b1_inv_destroys.proofs.Recorded.{calls_by, recorded, as_many}
-use Rattle.b1_inv_entries.proofs.Answers.{turn_answer, Fixes, Answers, turn_answers}
+use Rattle.b1_inv_entries.proofs.Answers.{turn_answer, Fixes, turn_answers}
 
 -- ---- a driver's calls after a turn
 
