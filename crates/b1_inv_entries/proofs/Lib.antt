@@ -2,3 +2,5 @@ pub mod Answers
 pub mod NewCalls
 pub mod SameRecord
 pub mod BelowStamp
+pub mod Sources
+pub mod Present

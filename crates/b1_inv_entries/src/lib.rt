@@ -3,4 +3,4 @@
 
 mod laws;
 
-pub use laws::{notices_stay_below_stamps};
+pub use laws::{notices_stay_below_stamps, queued_messages_stay_present};
