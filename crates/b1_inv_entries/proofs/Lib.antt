@@ -4,3 +4,4 @@ pub mod SameRecord
 pub mod BelowStamp
 pub mod Sources
 pub mod Present
+pub mod Keeping
