@@ -5,3 +5,4 @@ pub mod BelowStamp
 pub mod Sources
 pub mod Present
 pub mod Keeping
+pub mod Pending
