@@ -1,3 +1,5 @@
 pub mod Lines
 pub mod Agrees
 pub mod References
+pub mod Slots
+pub mod Arrives
