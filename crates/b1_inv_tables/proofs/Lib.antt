@@ -3,3 +3,4 @@ pub mod Agrees
 pub mod References
 pub mod Slots
 pub mod Arrives
+pub mod Receives
