@@ -4,3 +4,4 @@ pub mod References
 pub mod Slots
 pub mod Arrives
 pub mod Receives
+pub mod Values
