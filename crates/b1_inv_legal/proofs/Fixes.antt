@@ -47,15 +47,15 @@ fixed_after command (Goes phase) = answer_of command phase
 fixed_after command (Ends got) = Some got
 
 -- a receipt, or that there was none to take
-abbrev pub IsTaken : Bool → PeerPart → Command → Option Answer → Type 0
-IsTaken shut x command got = (shut ≡ false) × (first_action command ≡ act.Recv) × (got ≡ Some (recv_answer (received x)))
+abbrev pub IsTaken : List OwedDrop → Bool → PeerPart → Command → Option Answer → Type 0
+IsTaken owed shut x command got = (owed ≡ []) × (shut ≡ false) × (first_action command ≡ act.Recv) × (got ≡ Some (recv_answer (received x)))
 
 -- what an event at a peer may fix, by the phase before
-abbrev pub MayFix : Bool → PeerPart → Command → Phase → Option Answer → Type 0
-MayFix shut x command Starting got = IsPlainIf got ⊎ IsTaken shut x command got
-MayFix shut x command (Stamping sending) got = IsPlainIf got ⊎ (got ≡ Some (sent_answer sending (final_stamp x sending.collected)))
-MayFix shut x command (Dooming destruction) got = IsPlainIf got ⊎ ((x.late ≡ []) × (got ≡ Some (stamped_answer command (final_stamp x destruction.collected))))
-MayFix shut x command phase got = IsPlainIf got
+abbrev pub MayFix : List OwedDrop → Bool → PeerPart → Command → Phase → Option Answer → Type 0
+MayFix owed shut x command Starting got = IsPlainIf got ⊎ IsTaken owed shut x command got
+MayFix owed shut x command (Stamping sending) got = IsPlainIf got ⊎ ((owed ≡ []) × (got ≡ Some (sent_answer sending (final_stamp x sending.collected))))
+MayFix owed shut x command (Dooming destruction) got = IsPlainIf got ⊎ ((owed ≡ []) × (x.late ≡ []) × (got ≡ Some (stamped_answer command (final_stamp x destruction.collected))))
+MayFix owed shut x command phase got = IsPlainIf got
 
 -- ---- turns that fix a plain answer, or none
 
@@ -139,12 +139,12 @@ module _ (command : Command) where
   plain_stage me begun places collected None false origin user place serial payload nodes x = plain_place command begun places collected (Ok x.clock)
 
   doom_fixes : (me : ℕ) (shut : Bool) (d : Destruction) (x : PeerPart) (late : List ℕ) → x.late ≡ late
-      → MayFix shut x command (Dooming d) (fixed_after command (turn me command (Dooming d) (out.StampDestroy (elim late [ [] ↦ Ok (final_stamp x d.collected) | peer ∷ rest ↦ Err (peer ∷ rest) ]))))
-  doom_fixes me shut d x [] is = inr (is, notices_fix command d (final_stamp x d.collected) 0)
+      → MayFix [] shut x command (Dooming d) (fixed_after command (turn me command (Dooming d) (out.StampDestroy (elim late [ [] ↦ Ok (final_stamp x d.collected) | peer ∷ rest ↦ Err (peer ∷ rest) ]))))
+  doom_fixes me shut d x [] is = inr (refl, is, notices_fix command d (final_stamp x d.collected) 0)
   doom_fixes me shut d x (peer ∷ rest) is = inl (plain_visiting command d (peer ∷ rest))
 
 module _ (o : Opening) (memory : Bool) (d : DriverPart) (x : PeerPart) where
-  first_fixes : (command : Command) (b : Bool) → d.shut ≡ b → MayFix d.shut x command Starting (fixed_after command (started command (happens o memory (opened d command Starting []) (doing_in command Starting) (cond b act.Local (first_action command)) x).0))
+  first_fixes : (command : Command) (b : Bool) → d.shut ≡ b → MayFix [] d.shut x command Starting (fixed_after command (started command (happens o memory (opened d command Starting []) (doing_in command Starting) (cond b act.Local (first_action command)) x).0))
   first_fixes command true is = inl (plain_local d.shut command x)
   first_fixes cmd.Disconnect false is = inl (plain_destroy cmd.Disconnect (begin_refusal cmd.Disconnect x) (begin_serials cmd.Disconnect x) x)
   first_fixes cmd.Query false is = inl (plain_local d.shut cmd.Query x)
@@ -154,25 +154,25 @@ module _ (o : Opening) (memory : Bool) (d : DriverPart) (x : PeerPart) where
   first_fixes (cmd.Destroy numbers) false is = inl (plain_destroy (cmd.Destroy numbers) (begin_refusal (cmd.Destroy numbers) x) (begin_serials (cmd.Destroy numbers) x) x)
   first_fixes (cmd.SliceRelease offset) false is = inl (plain_local d.shut (cmd.SliceRelease offset) x)
   first_fixes (cmd.Send c) false is = inl (plain_begin (cmd.Send c) (send_refusal x c) memory c x)
-  first_fixes cmd.Recv false is = inr (is, refl, refl)
-  first_fixes cmd.Await false is = inr (is, refl, refl)
+  first_fixes cmd.Recv false is = inr (refl, is, refl, refl)
+  first_fixes cmd.Await false is = inr (refl, is, refl, refl)
 
-  drop_fixes : (command : Command) (phase : Phase) → answer_of command phase ≡ None → MayFix d.shut x command phase (fixed_after command (turn d.me command phase out.DropRefs))
-  drop_fixes command Starting none = inl tt
-  drop_fixes command (Staging begun places collected) none = tt
-  drop_fixes command (Attaching sending place slot) none = tt
-  drop_fixes command (Stamping sending) none = inl tt
-  drop_fixes command (Visiting destruction left) none = tt
-  drop_fixes command (Dooming destruction) none = inl tt
-  drop_fixes command phase none = absurd (cc none)
+  drop_fixes : (owed : List OwedDrop) (command : Command) (phase : Phase) → answer_of command phase ≡ None → MayFix owed d.shut x command phase (fixed_after command (turn d.me command phase out.DropRefs))
+  drop_fixes owed command Starting none = inl tt
+  drop_fixes owed command (Staging begun places collected) none = tt
+  drop_fixes owed command (Attaching sending place slot) none = tt
+  drop_fixes owed command (Stamping sending) none = inl tt
+  drop_fixes owed command (Visiting destruction left) none = tt
+  drop_fixes owed command (Dooming destruction) none = inl tt
+  drop_fixes owed command phase none = absurd (cc none)
 
   -- an event of a command without a fixed answer
-  pub event_fixes : (command : Command) (phase : Phase) (owed : List OwedDrop) → answer_of command phase ≡ None → MayFix d.shut x command phase (fixed_after command (turn d.me command phase (answered o memory d command phase owed x).0))
-  event_fixes command phase (one ∷ rest) none = drop_fixes command phase none
+  pub event_fixes : (command : Command) (phase : Phase) (owed : List OwedDrop) → answer_of command phase ≡ None → MayFix owed d.shut x command phase (fixed_after command (turn d.me command phase (answered o memory d command phase owed x).0))
+  event_fixes command phase (one ∷ rest) none = drop_fixes (one ∷ rest) command phase none
   event_fixes command Starting [] none = first_fixes command d.shut refl
   event_fixes command (Staging begun places collected) [] none = plain_stage command d.me begun places collected _ memory _ _ _ _ _ _ x
   event_fixes command (Attaching sending place slot) [] none = plain_attaching command (with_slot sending place slot _) place (slot + 1)
-  event_fixes command (Stamping sending) [] none = inr (syncing_fixes command sending (final_stamp x sending.collected) (accepted_from 0 sending.places))
+  event_fixes command (Stamping sending) [] none = inr (refl, syncing_fixes command sending (final_stamp x sending.collected) (accepted_from 0 sending.places))
   event_fixes command (Visiting destruction left) [] none = plain_visiting command (with_visit destruction (get_or left 0 d.me) _) (drop 1 left)
   event_fixes command (Dooming destruction) [] none = doom_fixes command d.me d.shut destruction x x.late refl
   event_fixes command phase [] none = absurd (cc none)

@@ -1,2 +1,5 @@
 pub mod Same
 pub mod Fixes
+pub mod Grown
+pub mod Adds
+pub mod NewStamp
