@@ -3,3 +3,4 @@ pub mod Fixes
 pub mod Grown
 pub mod Adds
 pub mod NewStamp
+pub mod Named
