@@ -4,3 +4,5 @@ pub mod Grown
 pub mod Adds
 pub mod NewStamp
 pub mod Named
+pub mod Here
+pub mod Sends
