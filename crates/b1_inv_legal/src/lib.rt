@@ -1,0 +1,2 @@
+//! Steps keep the record legal, over every list of steps.
+#![tactic(auto)]
