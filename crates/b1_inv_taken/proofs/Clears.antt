@@ -1,5 +1,5 @@
 -- What is so of a part, and stays where an entry for nobody is removed from the front, is so once RECV has removed all.
-use Rattle.std.proofs.Common.{◌≡◌, ◌⊎◌, refl, sym, ap, subst, ◌∙◌, inl, inr, Bool, true, false, cond, ◌&&◌, not, List, [], ◌∷◌, Some, Ok, Err}
+use Rattle.std.proofs.Common.{◌≡◌, ◌⊎◌, refl, sym, ap, subst, ◌∙◌, inl, inr, Bool, true, false, ◌&&◌, not, List, [], ◌∷◌, Some, Ok, Err}
 use Rattle.std.proofs.lemmas.Bool.{and_parts, not-true}
 use Rattle.b1_model.specs.declared.naming.Key.{Key}
 use Rattle.b1_model.specs.declared.entries.Entry.{Entry}

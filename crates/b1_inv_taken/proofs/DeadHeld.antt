@@ -1,6 +1,5 @@
 -- Where dead records are held: a removal and a lost reference leave them unheld, and a notice that was taken is received.
-use Rattle.std.proofs.Common.{◌≡◌, refl, sym, ap, subst, ◌∙◌, inl, inr, ℕ, suc, ◌+◌, ◌≤◌, ◌==◌, Bool, true, false, cond, List, [], ◌∷◌, fold, zip, Option, Some, None}
-use Rattle.std.specs.Prelude.{⊤}
+use Rattle.std.proofs.Common.{◌≡◌, refl, sym, ap, subst, ◌∙◌, inl, inr, ℕ, ◌+◌, ◌≤◌, Bool, true, false, cond, List, [], ◌∷◌, fold, zip, Option, Some, None}
 use Rattle.std.proofs.lemmas.Bool.{eqb-true}
 use native.Mathlib.Omega.{arith}
 use Rattle.b1_model.specs.declared.naming.Key.{Key}
@@ -15,7 +14,7 @@ use Rattle.b1_model.specs.declared.events.Action.{Action}
 use Rattle.b1_model.specs.declared.events.Action.TheVariants as act
 use Rattle.b1_model.specs.declared.events.Doing.{Doing}
 use Rattle.b1_model.specs.Names.{is_given}
-use Rattle.b1_model.specs.MachineParts.{PeerPart, DriverPart, HandleRecord, record_of, record_or_none, no_record, is_staged, carried, same_ref, ref_before}
+use Rattle.b1_model.specs.MachineParts.{PeerPart, DriverPart, HandleRecord, record_of, record_or_none, no_record, carried, same_ref, ref_before}
 use Rattle.b1_model.specs.MachineTables.{is_needed, changed, changed_or_made, more_flight, less_flight, less_held, more_held, made_dead, noticed, next_number, foreign, expected, unexpected, held_node}
 use Rattle.b1_model.specs.MachineSend.{find_stage, unstaged_by}
 use Rattle.b1_model.specs.MachineReceive.{Arriving, is_for_nobody, discarded, reference_by, slot_arrives, taken_entry, given_up}
@@ -26,7 +25,6 @@ use Rattle.b1_step.proofs.Changed.{changes}
 use Rattle.b1_step.proofs.Orders.{same_ref_is}
 use Rattle.b1_inv_record.specs.Destructions.{own_ref}
 use Rattle.b1_inv_peer.proofs.RecordFields.{or_none}
-use Rattle.b1_inv_taken.proofs.Clears.{Queue}
 
 abbrev Handles : Type 0
 Handles = List HandleRecord

@@ -1,20 +1,16 @@
 -- Which event fixes the answer of a flush; every other one adds no call that flushes.
-use Rattle.std.proofs.Common.{◌≡◌, refl, sym, ap, subst, ◌∙◌, inl, inr, ℕ, ◌+◌, ◌⊎◌, Bool, true, false, cond, ◌&&◌, nat_lt, List, [], ◌∷◌, ◌++◌, length, drop, get_or, Option, Some, None, Ok, Err}
+use Rattle.std.proofs.Common.{◌≡◌, refl, sym, ap, subst, ◌∙◌, inl, inr, ℕ, ◌+◌, ◌⊎◌, Bool, true, false, cond, nat_lt, List, [], ◌∷◌, length, drop, get_or, Some, Ok, Err}
 use Rattle.std.specs.Prelude.{⊤}
 use Rattle.b1_model.specs.declared.commands.Command.{Command}
-use Rattle.b1_model.specs.declared.answers.Answer.{Answer}
 use Rattle.b1_model.specs.declared.answers.Answer.TheVariants as answer
-use Rattle.b1_model.specs.declared.answers.Reason.{Reason}
 use Rattle.b1_model.specs.declared.events.Destruction.{Destruction}
 use Rattle.b1_model.specs.declared.events.Outcome.{Outcome}
 use Rattle.b1_model.specs.declared.events.Outcome.TheVariants as out
 use Rattle.b1_model.specs.declared.events.Phase.{Phase}
 use Rattle.b1_model.specs.declared.events.Phase.TheVariants.{Starting, Staging, Unstaging, Attaching, Stamping, Syncing, Committing, Dropping, Reaping, Visiting, Dooming, SyncingNotices, CommittingOwn, CommittingNotices, Flushing}
-use Rattle.b1_model.specs.declared.events.OwedDrop.{OwedDrop}
 use Rattle.b1_model.specs.declared.records.Call.{Call}
-use Rattle.b1_model.specs.MachineParts.{DriverPart}
 use Rattle.b1_model.specs.MachineDriver.{visiting, with_visit, syncing_notices, committing_notices, is_flushing, started, Turn, Goes, Ends, turn}
-use Rattle.b1_model.specs.MachineTook.{answer_of, call_of, fixed_call, stamped_answer, is_done, goes_by, turned, open_by, driver_calls}
+use Rattle.b1_model.specs.MachineTook.{answer_of, call_of, fixed_call, stamped_answer}
 use Rattle.b1_inv_record.specs.Epochs.{awaits_flush}
 use Rattle.b1_inv_destroys.proofs.FirstNode.{Adds, NoFlush, BringsMild, left_of, left_turn, add_turn}
 use Rattle.b1_inv_record.specs.Dooming.{is_ending}

@@ -3,3 +3,4 @@ pub mod Old
 pub mod Clears
 pub mod DeadHeld
 pub mod Receipts
+pub mod OwnSlots

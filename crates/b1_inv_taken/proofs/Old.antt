@@ -1,10 +1,10 @@
 -- Nodes of earlier epochs are destroyed: where a flush gets its answer, all nodes of its peer are.
-use Rattle.std.proofs.Common.{◌≡◌, ◌≢◌, refl, sym, ap, subst, ◌∙◌, inl, inr, ℕ, suc, ◌+◌, ◌<◌, ◌≤◌, ◌⊎◌, Bool, true, false, cond, ◌&&◌, not, nat_lt, List, [], ◌∷◌, ◌++◌, length, filter, filter_map, find, map, get_or, Option, Some, None, Ok, Err, option_map, append-nil}
+use Rattle.std.proofs.Common.{◌≡◌, ◌≢◌, refl, sym, ap, subst, ◌∙◌, inl, inr, ℕ, ◌+◌, ◌<◌, ◌≤◌, Bool, true, false, cond, ◌&&◌, not, nat_lt, List, [], ◌∷◌, ◌++◌, length, filter, find, Option, Some, None, Ok, Err, option_map, append-nil}
 use Rattle.std.specs.Prelude.{slice_get}
 use Rattle.std.specs.Bool.{then_some}
 use Rattle.std.proofs.lemmas.List.{length-append, length-map}
 use Rattle.std.proofs.lemmas.List.Filters.{length-filter_both}
-use Rattle.std.proofs.lemmas.Bool.{cases_eq, cases_lt, ltb-true}
+use Rattle.std.proofs.lemmas.Bool.{cases_eq, ltb-true}
 use Rattle.std.proofs.lemmas.Option.{slice_get_within, get_or_from_slice_get}
 use native.Mathlib.Omega.{arith}
 use Rattle.b1_model.specs.declared.commands.Command.{Command}
@@ -18,20 +18,17 @@ use Rattle.b1_model.specs.declared.parts.NodeState.{NodeState}
 use Rattle.b1_model.specs.declared.parts.NodeState.TheVariants.{Live, Dying, Destroyed}
 use Rattle.b1_model.specs.declared.events.Action.TheVariants as act
 use Rattle.b1_model.specs.declared.events.Destruction.{Destruction}
-use Rattle.b1_model.specs.declared.events.Doing.{Doing}
 use Rattle.b1_model.specs.declared.events.OwedDrop.{OwedDrop}
-use Rattle.b1_model.specs.declared.events.Outcome.{Outcome}
 use Rattle.b1_model.specs.declared.events.Outcome.TheVariants as out
 use Rattle.b1_model.specs.declared.events.Phase.{Phase}
 use Rattle.b1_model.specs.declared.events.Phase.TheVariants.{Starting, Dooming}
-use Rattle.b1_model.specs.declared.records.Call.{Call}
 use Rattle.b1_model.specs.Names.{Name, calls_of, is_own, is_known, add_new, epoch_in, wired}
 use Rattle.b1_model.specs.MachineParts.{PeerPart, NodePart, DriverPart, State, is_live, is_dying, is_destroyed, no_node, node_at}
 use Rattle.b1_model.specs.MachineSend.{first_reason, final_stamp, send_refusal}
-use Rattle.b1_model.specs.MachineDestroy.{is_bad_destroy, overflow_reason, is_not_live, live_serial, live_serials, destroy_refusal, destroy_serials, reset_serials, doom_by}
+use Rattle.b1_model.specs.MachineDestroy.{is_bad_destroy, overflow_reason, is_not_live, live_serial, live_serials, destroy_refusal, destroy_serials, doom_by}
 use Rattle.b1_model.specs.MachineDriver.{is_flushing, first_action, next_action, peer_of, turn, Turn, Goes, Ends}
 use Rattle.b1_model.specs.MachineTook.{answer_of, call_of, fixed_call, is_done, goes_by, turned, with_facts, open_by, driver_calls}
-use Rattle.b1_model.specs.MachineEvents.{happens, begin_by, destroy_by, begin_refusal, begin_serials, stamp_destroy_event}
+use Rattle.b1_model.specs.MachineEvents.{happens, begin_by, destroy_by, begin_refusal, begin_serials}
 use Rattle.b1_model.specs.MachineStep.{Step, opening_state, record_of_state}
 use Rattle.b1_step.specs.Rights.{Has}
 use Rattle.b1_step.proofs.Locality.{own_driver, other_driver, as_many_peers}
@@ -49,7 +46,6 @@ use Rattle.b1_inv_notices.proofs.Sets.{in_or_not}
 use Rattle.b1_inv_notices.proofs.Turns.{doing_in, opened, answered, parts, going, going_doing, going_action, going_answer, get_there}
 use Rattle.b1_inv_destroys.proofs.FirstNode.{Adds, brings_mild, all_mild}
 use Rattle.b1_inv_destroys.proofs.Recorded.{recorded, calls_by, as_many, as_many_after}
-use Rattle.b1_inv_names.specs.Destroyed.{DestroyedStay}
 use Rattle.b1_inv_names.proofs.Dooming.{live_there}
 use Rattle.b1_inv_names.proofs.Recorded.{recorded_calls}
 use Rattle.b1_step.proofs.Numbers.{opening_numbered}

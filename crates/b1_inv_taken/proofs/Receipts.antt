@@ -1,7 +1,6 @@
 -- Notices that were taken stand among the receipts of the epoch of their peer's part.
-use Rattle.std.proofs.Common.{◌≡◌, ◌≢◌, ◌⊎◌, refl, sym, ap, subst, ◌∙◌, inl, inr, ℕ, zero, suc, ◌+◌, ◌≤◌, ◌<◌, Bool, true, false, cond, ◌&&◌, not, List, [], ◌∷◌, ◌++◌, length, set, get_or, take, zip, Option, Some, None, Ok, Err, append-nil}
+use Rattle.std.proofs.Common.{◌≡◌, ◌≢◌, ◌⊎◌, refl, sym, ap, subst, ◌∙◌, inl, inr, ℕ, zero, suc, ◌≤◌, Bool, true, false, cond, ◌&&◌, List, [], ◌∷◌, ◌++◌, length, set, get_or, take, zip, Option, Some, None, Ok, Err, append-nil}
 use Rattle.std.specs.Prelude.{slice_get, ⊤}
-use Rattle.std.proofs.lemmas.Bool.{cases_eq}
 use Rattle.std.proofs.lemmas.Option.{slice_get_within, get_or_from_slice_get, same_Some}
 use native.Mathlib.Omega.{arith}
 use Rattle.b1_model.specs.declared.commands.Command.{Command}
@@ -9,7 +8,6 @@ use Rattle.b1_model.specs.declared.commands.Command.TheVariants as cmd
 use Rattle.b1_model.specs.declared.naming.Key.{Key}
 use Rattle.b1_model.specs.declared.naming.NodeRef.{NodeRef}
 use Rattle.b1_model.specs.declared.naming.Opening.{Opening}
-use Rattle.b1_model.specs.declared.answers.Answer.{Answer}
 use Rattle.b1_model.specs.declared.answers.Answer.TheVariants as answer
 use Rattle.b1_model.specs.declared.answers.Receipt.{Receipt}
 use Rattle.b1_model.specs.declared.answers.Reason.TheVariants.{Again}
@@ -32,21 +30,20 @@ use Rattle.b1_model.specs.MachinePool.{published}
 use Rattle.b1_model.specs.MachineTables.{notice_taken}
 use Rattle.b1_model.specs.declared.parts.Slot.{Slot}
 use Rattle.b1_step.specs.Ordered.{Rising}
-use Rattle.b1_model.specs.MachineDriver.{first_action, next_action, peer_of, recv_answer, refused_at, turn}
-use Rattle.b1_model.specs.MachineTook.{as_call, call_of, is_await, driver_calls, answer_of, fixed_call}
+use Rattle.b1_model.specs.MachineDriver.{first_action, next_action, peer_of, refused_at, turn}
+use Rattle.b1_model.specs.MachineTook.{as_call, call_of, is_await, answer_of, fixed_call}
 use Rattle.b1_model.specs.MachineEvents.{happens}
 use Rattle.b1_model.specs.MachineStep.{Step, opening_state, record_of_state}
 use Rattle.b1_step.specs.Rights.{Has}
 use Rattle.b1_step.proofs.Changed.{changes}
 use Rattle.b1_step.proofs.Locality.{own_driver}
-use Rattle.b1_inv.specs.Words.{IsPeer, IsDriver}
+use Rattle.b1_inv.specs.Words.{IsPeer}
 use Rattle.b1_inv.specs.Sound.{IsSound}
-use Rattle.b1_ledger.proofs.Sequences.{take-past}
 use Rattle.b1_inv_record.specs.Epochs.{in_gap, flushed_calls, made_before, first_done, WasReceivedIn}
 use Rattle.b1_inv_record.specs.Destructions.{own_ref, doomed_key, TakenHasReceipt}
 use Rattle.b1_inv_record.specs.Right.{IsRight}
-use Rattle.b1_inv_tools.proofs.Leaves.{driver_cases, peer_cases}
-use Rattle.b1_inv_notices.proofs.Turns.{doing_in, opened, parts, going, going_doing, going_action, going_answer, get_there}
+use Rattle.b1_inv_tools.proofs.Leaves.{peer_cases}
+use Rattle.b1_inv_notices.proofs.Turns.{doing_in, opened, parts, going, going_doing, going_action, going_answer}
 use Rattle.b1_inv_destroys.proofs.FirstNode.{left_turn, flushed_after, is_flush_action, first_same, first_other}
 use Rattle.b1_inv_destroys.proofs.Nodes.{slots_nodes, taken_same}
 use Rattle.b1_inv_destroys.proofs.Received.{received_stays}
@@ -56,11 +53,10 @@ use Rattle.b1_inv_destroys.proofs.Foreign.{none_dead}
 use Rattle.b1_inv_tools.proofs.Openings.{opening_each}
 use Rattle.b1_inv_names.proofs.ShutKept.{flush_call, calls_are, as_many_nodes}
 use Rattle.b1_inv_destroys.proofs.Stays.{doomed_stays}
-use Rattle.b1_inv_peer.proofs.Clearing.{without_front}
 use Rattle.b1_inv_taken.proofs.FlushTurns.{open_turn}
 use Rattle.b1_inv_taken.proofs.Old.{calls_before, calls_after}
 use Rattle.b1_inv_taken.proofs.Clears.{Queue, Took, receives, taken_key, is_release, nobody_again, cleared_by, cleared_same}
-use Rattle.b1_inv_taken.proofs.DeadHeld.{AllHeld, held_discarded, held_taken, is_recv, held_event}
+use Rattle.b1_inv_taken.proofs.DeadHeld.{AllHeld, held_discarded, held_taken, held_event}
 
 -- ---- where a RECV and a flush stand
 

@@ -7,6 +7,7 @@ ghost use Rattle.b1_model.specs.MachineStep.{Step, opening_state};
 ghost use Rattle.b1_inv.specs.Sound.{IsSound};
 ghost use Rattle.b1_inv_record.specs.Names.{OldNodesDestroyed};
 ghost use Rattle.b1_inv_record.specs.Destructions.{TakenHasReceipt};
+ghost use Rattle.b1_inv_record.specs.Holders.{OwnSlotsPresent};
 ghost use Rattle.b1_inv_record.specs.Right.{IsRight};
 
 /// A step keeps the nodes of earlier epochs destroyed, and every bus begins so.
@@ -29,5 +30,16 @@ pub fn taken_notices_stay_received()
     ensures kept_TakenHasReceipt {
         (o : Opening) (s : State) (p : ℕ) (c : Option Command) (t : State) → IsSound o s → IsRight o s → Step o s p c t
             → TakenHasReceipt o t
+    }
+{}
+
+/// A step keeps the own slots of queued messages to nodes of the epoch of the queue's part, and every bus begins so.
+pub fn own_slots_stay_present()
+    ensures opening_OwnSlotsPresent {
+        (o : Opening) → IsOpening o → OwnSlotsPresent o (opening_state o)
+    }
+    ensures kept_OwnSlotsPresent {
+        (o : Opening) (s : State) (p : ℕ) (c : Option Command) (t : State) → IsSound o s → IsRight o s → Step o s p c t
+            → OwnSlotsPresent o t
     }
 {}

@@ -3,4 +3,4 @@
 
 mod laws;
 
-pub use laws::{old_nodes_stay_destroyed, taken_notices_stay_received};
+pub use laws::{old_nodes_stay_destroyed, own_slots_stay_present, taken_notices_stay_received};
