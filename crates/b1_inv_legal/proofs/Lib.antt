@@ -6,3 +6,5 @@ pub mod NewStamp
 pub mod Named
 pub mod Here
 pub mod Sends
+pub mod Lines
+pub mod Tables
