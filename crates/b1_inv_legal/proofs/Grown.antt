@@ -78,7 +78,7 @@ module _ (command : Command) where
 
 -- ---- a step
 
-records_length : (xs : List PeerPart) (ds : List DriverPart) → length xs ≡ length ds → length (peer_records xs ds) ≡ length xs
+pub records_length : (xs : List PeerPart) (ds : List DriverPart) → length xs ≡ length ds → length (peer_records xs ds) ≡ length xs
 records_length [] ds same = refl
 records_length (x ∷ xs) [] same = absurd (omega (arith, same))
 records_length (x ∷ xs) (d ∷ ds) same = ap suc (records_length xs ds (omega (arith, same)))

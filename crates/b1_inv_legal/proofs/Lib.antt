@@ -8,3 +8,5 @@ pub mod Here
 pub mod Sends
 pub mod Lines
 pub mod Tables
+pub mod Doomed
+pub mod Ends

@@ -56,7 +56,7 @@ has_line_of n (m ∷ ls) h = go (n == m.number) refl (has_line_of n ls) h
     go true is ih h = (m, inl refl, sym (eqb-true n m.number is))
     go false is ih h = let k = ih h in (k.0, inr k.1, k.2)
 
-line_number_of : (x : Node) (ls : List Line) (n : ℕ) → line_number x ls ≡ Some n → (l : Line) × Has ls l × (l.number ≡ n) × (is_the_node x l.node ≡ true)
+pub line_number_of : (x : Node) (ls : List Line) (n : ℕ) → line_number x ls ≡ Some n → (l : Line) × Has ls l × (l.number ≡ n) × (is_the_node x l.node ≡ true)
 line_number_of x [] n h = absurd (cc h)
 line_number_of x (m ∷ ls) n h = go (is_the_node x m.node) refl (line_number_of x ls n) h
   where

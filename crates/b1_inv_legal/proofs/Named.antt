@@ -36,10 +36,10 @@ place_of (m ∷ rest) (suc i) zero n apart is also = let same : m ≡ n = cc als
 place_of (m ∷ rest) (suc i) (suc j) n apart is also = ap suc (place_of rest i j n apart.1 is also)
 
 -- the name that an own number finds
-abbrev FoundName : ℕ → ℕ → ℕ → List Name → Node → Type 0
+abbrev pub FoundName : ℕ → ℕ → ℕ → List Name → Node → Type 0
 FoundName p i n ms x = (j : ℕ) × (m : Name) × (slice_get ms j ≡ Some m) × (m.number ≡ n) × (x.owner ≡ p) × (x.serial ≡ i + j) × (x.epoch ≡ m.epoch)
 
-found_name : (p i n : ℕ) (ms : List Name) (x : Node) → node_from p i n ms ≡ Some x → FoundName p i n ms x
+pub found_name : (p i n : ℕ) (ms : List Name) (x : Node) → node_from p i n ms ≡ Some x → FoundName p i n ms x
 found_name p i n [] x e = absurd (cc e)
 found_name p i n (m ∷ ms) x e = go (n == m.number) refl (λ f. found_name p (suc i) n ms x f) e
   where
