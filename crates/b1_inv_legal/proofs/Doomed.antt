@@ -1,9 +1,9 @@
 -- What the stamp of a destruction destroys in the record: nodes of its own peer, all of which are dying.
-use Rattle.std.proofs.Common.{◌≡◌, ◌≢◌, ◌⊎◌, refl, sym, ap, subst, ◌∙◌, inl, inr, ℕ, zero, suc, ◌+◌, ◌<◌, ◌==◌, Bool, true, false, cond, not, ◌&&◌, ◌||◌, List, [], ◌∷◌, map, filter, get_or, length, position, Option, Some, None, option_map}
+use Rattle.std.proofs.Common.{◌≡◌, refl, sym, ap, ◌∙◌, inl, inr, ℕ, zero, suc, ◌+◌, ◌==◌, Bool, true, false, cond, not, ◌&&◌, List, [], ◌∷◌, map, filter, position, Option, Some, None, option_map}
 use Rattle.std.specs.Prelude.{slice_get}
-use Rattle.std.specs.List.{list_any, list_all}
+use Rattle.std.specs.List.{list_all}
 use Rattle.std.proofs.lemmas.Bool.{and_parts, eqb-true, eq-eqb, not-true}
-use Rattle.std.proofs.lemmas.Option.{same_Some, slice_get-map, slice_get_within, get_or_from_slice_get}
+use Rattle.std.proofs.lemmas.Option.{same_Some, slice_get-map, get_or_from_slice_get}
 use native.Mathlib.Omega.{arith}
 use Rattle.b1_model.specs.declared.commands.Command.{Command}
 use Rattle.b1_model.specs.declared.commands.Command.TheVariants as cmd
@@ -13,12 +13,10 @@ use Rattle.b1_model.specs.declared.naming.Opening.{Opening}
 use Rattle.b1_model.specs.declared.parts.NodeState.{NodeState}
 use Rattle.b1_model.specs.declared.parts.NodeState.TheVariants.{Live, Dying, Destroyed}
 use Rattle.b1_model.specs.declared.events.Destruction.{Destruction as Open}
-use Rattle.b1_model.specs.declared.events.Phase.{Phase}
 use Rattle.b1_model.specs.declared.events.Phase.TheVariants.{Dooming}
-use Rattle.b1_model.specs.declared.records.Record.{Record}
 use Rattle.b1_model.specs.Names.{is_own, Node, same_node, Name, own_node, nodes_from}
 use Rattle.b1_model.specs.Ledger.{Table, is_the_node, named, line_node, Destruction, has_node, is_destroyed_in, destructions_of}
-use Rattle.b1_model.specs.MachineParts.{PeerPart, NodePart, DriverPart, State, is_live, is_dying, is_destroyed, no_node, node_at}
+use Rattle.b1_model.specs.MachineParts.{PeerPart, NodePart, DriverPart, State, is_live, is_dying, no_node, node_at}
 use Rattle.b1_model.specs.MachineTables.{serial_of}
 use Rattle.b1_model.specs.MachineDriver.{is_flushing}
 use Rattle.b1_model.specs.MachineStep.{record_of_state}
@@ -26,9 +24,9 @@ use Rattle.b1_step.specs.Rights.{Has}
 use Rattle.b1_step.proofs.Lists.{has_at}
 use Rattle.b1_inv.specs.Words.{IsPeer, IsDriver}
 use Rattle.b1_inv.specs.Sound.{IsSound}
-use Rattle.b1_ledger.proofs.Sequences.{or_true, or_left, or_right, bool_cases}
+use Rattle.b1_ledger.proofs.Sequences.{or_true, or_left, or_right}
 use Rattle.b1_inv_record.specs.Epochs.{is_ref, doom_from}
-use Rattle.b1_inv_record.specs.Destructions.{own_ref, doomed_key}
+use Rattle.b1_inv_record.specs.Destructions.{own_ref}
 use Rattle.b1_inv_record.specs.Numbers.{names_own}
 use Rattle.b1_inv_record.specs.Right.{IsRight}
 use Rattle.b1_inv_notices.proofs.Turns.{doing_in, get_there}

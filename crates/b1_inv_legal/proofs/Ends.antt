@@ -1,5 +1,5 @@
 -- The stamp of a destruction keeps the record legal: it is above all that owners and holders of its nodes took.
-use Rattle.std.proofs.Common.{◌≡◌, ◌≢◌, ◌⊎◌, refl, sym, ap, subst, ◌∙◌, inl, inr, ℕ, suc, ◌<◌, ◌≤◌, ◌==◌, Bool, true, false, cond, ◌&&◌, ◌||◌, List, [], ◌∷◌, map, filter, length, Option, Some, None}
+use Rattle.std.proofs.Common.{◌≡◌, ◌≢◌, ◌⊎◌, refl, sym, ap, subst, ◌∙◌, inl, inr, ℕ, suc, ◌<◌, ◌==◌, Bool, true, false, cond, ◌||◌, List, [], map, Some, None}
 use Rattle.std.specs.Prelude.{slice_get, is_some}
 use Rattle.std.proofs.lemmas.Bool.{and_parts, eqb-true, ne_eqb, cases_eq}
 use Rattle.std.proofs.lemmas.Option.{same_Some}
@@ -16,7 +16,7 @@ use Rattle.b1_model.specs.declared.events.Phase.TheVariants.{Dooming}
 use Rattle.b1_model.specs.declared.records.Call.{Call}
 use Rattle.b1_model.specs.declared.records.Record.{Record}
 use Rattle.b1_model.specs.Names.{Node, Name, calls_of, made, carried_by, add_new, epoch_at}
-use Rattle.b1_model.specs.Ledger.{got_key, Table, Message, message, to_at, is_entry, is_accepted, is_node_of, table, line_number, has_node, is_destroyed_in, destructions_of, is_late}
+use Rattle.b1_model.specs.Ledger.{got_key, Message, message, to_at, is_accepted, is_node_of, table, line_number, is_destroyed_in, is_late}
 use Rattle.b1_model.specs.Legal.{seen_stamp, is_notice_of, IsNextReceipt, Legal}
 use Rattle.b1_model.specs.MachineParts.{PeerPart, DriverPart, State, is_dying, node_at}
 use Rattle.b1_model.specs.MachineSend.{final_stamp}
@@ -29,7 +29,7 @@ use Rattle.b1_inv.specs.Words.{IsPeer, IsDriver}
 use Rattle.b1_inv.specs.Notices.{IsDestroying}
 use Rattle.b1_inv.specs.Sound.{IsSound}
 use Rattle.b1_ledger.specs.Growth.{Appends, calls_len, all_names, message_key, destroy_stamp, next_destruction, DestroysAbove, Names}
-use Rattle.b1_ledger.proofs.Sequences.{option_cases, or_true}
+use Rattle.b1_ledger.proofs.Sequences.{option_cases}
 use Rattle.b1_ledger.proofs.Calls.{made_new}
 use Rattle.b1_ledger.proofs.NextAfter.{is_peer}
 use Rattle.b1_ledger.proofs.Stamped.{legal_doomed}

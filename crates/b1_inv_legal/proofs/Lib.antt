@@ -10,3 +10,4 @@ pub mod Lines
 pub mod Tables
 pub mod Doomed
 pub mod Ends
+pub mod Kept

@@ -1,19 +1,10 @@
 -- Each number of a table was given, so a slot that arrives as a number leaves its node a line.
-use Rattle.std.proofs.Common.{◌≡◌, ◌≢◌, ◌⊎◌, refl, sym, ap, subst, ◌∙◌, inl, inr, ℕ, zero, suc, pred, ◌+◌, ◌*◌, ◌%◌, ◌<◌, ◌≤◌, ◌==◌, Bool, true, false, cond, not, ◌&&◌, List, [], ◌∷◌, ◌++◌, length, Option, Some, None}
-use Rattle.std.specs.Prelude.{slice_get, is_some, unwrap_or, take}
-use Rattle.std.proofs.lemmas.Bool.{eqb-true, eq-eqb, ne_eqb, cases_eq}
+use Rattle.std.proofs.Common.{◌≡◌, ◌≢◌, refl, sym, ap, ◌∙◌, inl, inr, ℕ, zero, suc, pred, ◌+◌, ◌*◌, ◌%◌, ◌<◌, ◌≤◌, ◌==◌, Bool, true, false, cond, ◌&&◌, List, [], ◌∷◌, ◌++◌, Option, Some, None}
+use Rattle.std.specs.Prelude.{slice_get, is_some, unwrap_or}
+use Rattle.std.proofs.lemmas.Bool.{eqb-true, eq-eqb, ne_eqb}
 use native.Mathlib.Omega.{arith}
-use Rattle.b1_model.specs.declared.naming.Key.{Key}
 use Rattle.b1_model.specs.declared.naming.Wire.{Wire}
-use Rattle.b1_model.specs.declared.naming.Opening.{Opening}
-use Rattle.b1_model.specs.declared.commands.Command.{Command}
-use Rattle.b1_model.specs.declared.commands.Command.TheVariants as cmd
-use Rattle.b1_model.specs.declared.answers.Receipt.TheVariants as rec
-use Rattle.b1_model.specs.declared.answers.Answer.{Answer}
-use Rattle.b1_model.specs.declared.answers.Answer.TheVariants as ans
-use Rattle.b1_model.specs.declared.records.Call.{Call}
-use Rattle.b1_model.specs.declared.records.Record.{Record}
-use Rattle.b1_model.specs.Names.{invalid, is_own, is_given, Node, same_node, Name, wired, number_at}
+use Rattle.b1_model.specs.Names.{invalid, is_own, is_given, Node, Name, wired, number_at}
 use Rattle.b1_model.specs.Ledger.{Line, Table, is_the_node, line_number, has_line, raised, lowered, received, received_all, given_number, handed, wire_tables, named, start}
 use Rattle.b1_model.specs.Legal.{handle_number, arrives, arrived}
 use Rattle.b1_step.specs.Rights.{Has}

@@ -1,8 +1,8 @@
 -- The tables of a legal record: all numbers were given, and what a message carries to another peer than its owner has a line there.
-use Rattle.std.proofs.Common.{◌≡◌, ◌≢◌, refl, sym, ap, subst, ◌∙◌, inl, inr, ℕ, zero, suc, ◌+◌, ◌%◌, ◌<◌, ◌≤◌, ◌==◌, Bool, true, false, cond, ◌&&◌, List, [], ◌∷◌, map, filter, length, Option, Some, None}
+use Rattle.std.proofs.Common.{◌≡◌, ◌≢◌, refl, sym, ap, subst, ◌∙◌, ℕ, zero, suc, ◌≤◌, ◌==◌, true, false, cond, List, [], ◌∷◌, map, filter, length, Option, Some, None}
 use Rattle.std.specs.Prelude.{slice_get, is_some, take}
 use Rattle.std.proofs.lemmas.Bool.{and_parts}
-use Rattle.std.proofs.lemmas.Option.{same_Some, slice_get_within, slice_get-map}
+use Rattle.std.proofs.lemmas.Option.{same_Some, slice_get-map}
 use native.Mathlib.Omega.{arith}
 use Rattle.b1_model.specs.declared.naming.Key.{Key}
 use Rattle.b1_model.specs.declared.naming.Opening.{Opening}
@@ -13,10 +13,9 @@ use Rattle.b1_model.specs.declared.answers.Answer.{Answer}
 use Rattle.b1_model.specs.declared.answers.Answer.TheVariants as ans
 use Rattle.b1_model.specs.declared.records.Call.{Call}
 use Rattle.b1_model.specs.declared.records.Record.{Record}
-use Rattle.b1_model.specs.Names.{is_own, Node, Name, wired, calls_of, made_in, made}
+use Rattle.b1_model.specs.Names.{Node, Name, wired, calls_of, made}
 use Rattle.b1_model.specs.Ledger.{Table, line_number, received_all, start, changed, table_in, Message, to_at, is_entry, slots_in, message, slots, table, is_late}
 use Rattle.b1_model.specs.Legal.{last_key, is_above, is_open_to, is_message_in, arrived, IsNextReceipt, IsWhatWasSent, Legal}
-use Rattle.b1_step.specs.Rights.{Has}
 use Rattle.b1_step.proofs.Lists.{has_at}
 use Rattle.b1_ledger.proofs.Sequences.{take-past}
 use Rattle.b1_ledger.proofs.Steps.{table_next}
