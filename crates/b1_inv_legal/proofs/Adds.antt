@@ -1,5 +1,5 @@
 -- When a step keeps the record legal: by the one call that it may add.
-use Rattle.std.proofs.Common.{◌≡◌, ◌⊎◌, refl, sym, ap, subst, ◌∙◌, inl, inr, ℕ, Bool, false, List, [], Option, Some, None}
+use Rattle.std.proofs.Common.{◌≡◌, refl, sym, subst, ◌∙◌, inl, inr, ℕ, Bool, false, List, [], Option, Some}
 use Rattle.std.proofs.lemmas.Option.{same_Some}
 use Rattle.b1_model.specs.declared.commands.Command.{Command}
 use Rattle.b1_model.specs.declared.naming.Opening.{Opening}
@@ -68,5 +68,5 @@ module _ {o : Opening} {s : State} {p : ℕ} {c : Option Command} {t : State} (s
 
   pub step_legal : Follows StaysLegal step.driver.owed step.driver.shut step.peer (parts step).command (parts step).phase → Legal o (record_of_state t)
   step_legal follows = legal_by sound step legal (λ got none fixed more.
-    follows_fixed StaysLegal step.driver.owed step.driver.shut step.peer (parts step).command (parts step).phase (now_fixed sound step) got fixed follows
-    (event_fixes o step.local.memory step.driver step.peer (parts step).command (parts step).phase step.driver.owed none) more)
+      follows_fixed StaysLegal step.driver.owed step.driver.shut step.peer (parts step).command (parts step).phase (now_fixed sound step) got fixed follows
+      (event_fixes o step.local.memory step.driver step.peer (parts step).command (parts step).phase step.driver.owed none) more)

@@ -1,6 +1,5 @@
 -- The record behind a step: the same calls, or one more of the step's driver.
-use Rattle.std.proofs.Common.{◌≡◌, ◌≢◌, ◌⊎◌, refl, sym, ap, subst, ◌∙◌, inl, inr, ℕ, zero, suc, ◌+◌, Bool, true, false, cond, List, [], ◌∷◌, ◌++◌, length, Option, Some, None, append-nil}
-use Rattle.std.specs.Prelude.{slice_get}
+use Rattle.std.proofs.Common.{◌≡◌, ◌≢◌, refl, sym, ap, subst, ◌∙◌, inl, inr, ℕ, suc, ◌+◌, Bool, true, false, cond, List, [], ◌∷◌, ◌++◌, length, Option, Some, None, append-nil}
 use Rattle.std.proofs.lemmas.Bool.{cases_eq}
 use native.Mathlib.Omega.{arith}
 use Rattle.b1_model.specs.declared.commands.Command.{Command}
@@ -15,7 +14,6 @@ use Rattle.b1_model.specs.declared.events.Phase.{Phase}
 use Rattle.b1_model.specs.declared.events.Phase.TheVariants.{Starting, Staging, Unstaging, Attaching, Stamping, Syncing, Committing, Visiting, Dooming, SyncingNotices, CommittingOwn, CommittingNotices, Flushing}
 use Rattle.b1_model.specs.declared.events.Sending.{Sending}
 use Rattle.b1_model.specs.declared.records.Call.{Call}
-use Rattle.b1_model.specs.declared.records.Record.{Record}
 use Rattle.b1_model.specs.Names.{calls_of}
 use Rattle.b1_model.specs.Legal.{Legal}
 use Rattle.b1_model.specs.MachineParts.{PeerPart, DriverPart, State}
@@ -78,7 +76,7 @@ module _ (command : Command) where
 
 -- ---- a step
 
-records_length : (xs : List PeerPart) (ds : List DriverPart) → length xs ≡ length ds → length (peer_records xs ds) ≡ length xs
+pub records_length : (xs : List PeerPart) (ds : List DriverPart) → length xs ≡ length ds → length (peer_records xs ds) ≡ length xs
 records_length [] ds same = refl
 records_length (x ∷ xs) [] same = absurd (omega (arith, same))
 records_length (x ∷ xs) (d ∷ ds) same = ap suc (records_length xs ds (omega (arith, same)))

@@ -6,3 +6,8 @@ pub mod NewStamp
 pub mod Named
 pub mod Here
 pub mod Sends
+pub mod Lines
+pub mod Tables
+pub mod Doomed
+pub mod Ends
+pub mod Kept

@@ -1,5 +1,5 @@
 -- What a number names by the record is what it names in the peer's part.
-use Rattle.std.proofs.Common.{◌≡◌, ◌≢◌, ◌⊎◌, refl, sym, ap, subst, ◌∙◌, inl, inr, ℕ, zero, suc, ◌+◌, ◌<◌, ◌==◌, Bool, true, false, cond, not, ◌&&◌, List, [], ◌∷◌, ◌++◌, map, find, get_or, length, Option, Some, None, option_map}
+use Rattle.std.proofs.Common.{◌≡◌, ◌⊎◌, refl, sym, ap, subst, ◌∙◌, inl, inr, ℕ, zero, suc, ◌+◌, ◌==◌, Bool, true, false, cond, not, ◌&&◌, List, [], ◌∷◌, ◌++◌, map, find, get_or, length, Option, Some, None, option_map}
 use Rattle.std.specs.Prelude.{slice_get}
 use Rattle.std.proofs.lemmas.Bool.{eqb-true}
 use Rattle.std.proofs.lemmas.Option.{same_Some, slice_get-map, slice_get_past, get_or_from_slice_get}
@@ -7,7 +7,7 @@ use native.Mathlib.Omega.{arith}
 use Rattle.b1_model.specs.declared.naming.NodeRef.{NodeRef}
 use Rattle.b1_model.specs.declared.naming.Opening.{Opening}
 use Rattle.b1_model.specs.Names.{is_own, Node, Name, is_known, add_new, node_from, own_node, made}
-use Rattle.b1_model.specs.Ledger.{Line, Table, line_node, named, table, node_of}
+use Rattle.b1_model.specs.Ledger.{Line, line_node, named, table, node_of}
 use Rattle.b1_model.specs.MachineParts.{PeerPart, DriverPart, HandleRecord, State, no_node}
 use Rattle.b1_model.specs.MachineTables.{is_number, held_node, serial_of, node_named}
 use Rattle.b1_model.specs.MachineStep.{record_of_state}
@@ -17,9 +17,9 @@ use Rattle.b1_step.proofs.Orders.{same_ref_is}
 use Rattle.b1_inv.specs.Words.{IsPeer, IsDriver}
 use Rattle.b1_inv.specs.Notices.{Apart}
 use Rattle.b1_inv.specs.Sound.{IsSound}
-use Rattle.b1_ledger.specs.Growth.{all_names, calls_len, IsMade}
+use Rattle.b1_ledger.specs.Growth.{all_names, calls_len}
 use Rattle.b1_ledger.proofs.Sequences.{slice_get-append, slice_get-more}
-use Rattle.b1_ledger.proofs.Made.{add_new_keeps, named_was_made}
+use Rattle.b1_ledger.proofs.Made.{named_was_made}
 use Rattle.b1_inv_record.specs.Epochs.{in_gap, epoch_now, epoch_of_node, ref_of, is_ref}
 use Rattle.b1_inv_record.specs.Right.{IsRight}
 use Rattle.b1_inv_notices.proofs.Turns.{get_there}
@@ -36,10 +36,10 @@ place_of (m ∷ rest) (suc i) zero n apart is also = let same : m ≡ n = cc als
 place_of (m ∷ rest) (suc i) (suc j) n apart is also = ap suc (place_of rest i j n apart.1 is also)
 
 -- the name that an own number finds
-abbrev FoundName : ℕ → ℕ → ℕ → List Name → Node → Type 0
+abbrev pub FoundName : ℕ → ℕ → ℕ → List Name → Node → Type 0
 FoundName p i n ms x = (j : ℕ) × (m : Name) × (slice_get ms j ≡ Some m) × (m.number ≡ n) × (x.owner ≡ p) × (x.serial ≡ i + j) × (x.epoch ≡ m.epoch)
 
-found_name : (p i n : ℕ) (ms : List Name) (x : Node) → node_from p i n ms ≡ Some x → FoundName p i n ms x
+pub found_name : (p i n : ℕ) (ms : List Name) (x : Node) → node_from p i n ms ≡ Some x → FoundName p i n ms x
 found_name p i n [] x e = absurd (cc e)
 found_name p i n (m ∷ ms) x e = go (n == m.number) refl (λ f. found_name p (suc i) n ms x f) e
   where
@@ -117,8 +117,7 @@ module _ {o : Opening} {s : State} (sound : IsSound o s) (right : IsRight o s) (
       let k = found_name p 0 n known y by_names in
       let found = own_serial n node own by_part in
       let j : y.serial ≡ k.0 = let f : y.serial ≡ 0 + k.0 = k.5 in omega (arith, f) in
-      let same : found.0 ≡ k.0 = serial_is known numbers n found.0 k.0 k.1 found.1 k.2 k.3 in
-      (
+      let same : found.0 ≡ k.0 = serial_is known numbers n found.0 k.0 k.1 found.1 k.2 k.3 in (
         ap (λ q. record { owner = q; serial = y.serial }) k.4 ∙ ap (λ i. record { owner = p; serial = i }) (j ∙ sym same) ∙ sym found.2,
         k.4,
         (k.1, ap (slice_get known) j ∙ k.2, k.6),

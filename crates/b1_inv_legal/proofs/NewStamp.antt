@@ -1,8 +1,7 @@
 -- A stamp above a peer's clock is new to it.
-use Rattle.std.proofs.Common.{◌≡◌, refl, sym, ap, ◌∙◌, ℕ, ◌+◌, ◌%◌, ◌<◌, ◌≤◌, max, subst, List, [], ◌∷◌, Some}
+use Rattle.std.proofs.Common.{◌≡◌, ℕ, ◌+◌, ◌%◌, ◌<◌, ◌≤◌, max, Some}
 use Rattle.std.specs.Prelude.{slice_get}
 use native.Mathlib.Omega.{arith}
-use Rattle.b1_model.specs.declared.naming.Opening.{Opening}
 use Rattle.b1_model.specs.declared.records.Call.{Call}
 use Rattle.b1_model.specs.Names.{calls_of}
 use Rattle.b1_model.specs.Legal.{seen_stamp}

@@ -10,8 +10,8 @@ use Rattle.b1_model.specs.declared.answers.Answer.{Answer}
 use Rattle.b1_model.specs.declared.answers.Answer.TheVariants as ans
 use Rattle.b1_model.specs.declared.records.Call.{Call}
 use Rattle.b1_model.specs.declared.records.Record.{Record}
-use Rattle.b1_model.specs.Names.{Node, Name, calls_of, wired, made_in, made, epoch_in, epoch_at}
-use Rattle.b1_model.specs.Ledger.{message_within, message_at, sent_at, slots_by, message, slots, table_in, start, Table, table, add_destruction, destructions_before, destructions_of, node_at, doomed_at, is_late, is_late_by, Message, to_at, is_entry}
+use Rattle.b1_model.specs.Names.{Node, calls_of, wired, made_in, made, epoch_in, epoch_at}
+use Rattle.b1_model.specs.Ledger.{message_within, message_at, sent_at, slots_by, message, slots, table_in, start, table, add_destruction, destructions_before, destructions_of, node_at, doomed_at, is_late, is_late_by, Message, to_at, is_entry}
 use Rattle.b1_model.specs.Legal.{last_in, last_key, is_above, is_open_to, is_message_in, is_message, is_notice_of, is_notice, is_candidate, own_number_of, notice_number, arrived, IsNextReceipt, IsWhatWasSent, Legal}
 
 module _ (ws : List Wire) (r t : Record) (peers : length t.peers ≡ length r.peers) (calls : (q : ℕ) → calls_of t q ≡ calls_of r q) where

@@ -1,36 +1,28 @@
 -- The stamp of a SEND keeps the record legal: it is above all that the owners of the accepted destinations took in the nodes' epochs.
-use Rattle.std.proofs.Common.{◌≡◌, ◌⊎◌, refl, sym, ap, subst, ◌∙◌, inl, inr, ℕ, suc, ◌+◌, ◌<◌, ◌≤◌, Bool, true, false, List, [], ◌∷◌, map, take, length, Option, Some, None, option_map}
+use Rattle.std.proofs.Common.{◌≡◌, refl, sym, ap, ◌∙◌, ℕ, suc, ◌≤◌, true, false, List, [], map, Option, Some, None, option_map}
 use Rattle.std.specs.Prelude.{slice_get}
 use Rattle.std.specs.Option.{option_flatten}
 use Rattle.std.proofs.lemmas.Option.{same_Some, slice_get-map}
 use native.Mathlib.Omega.{arith}
-use Rattle.b1_model.specs.declared.commands.Command.{Command}
 use Rattle.b1_model.specs.declared.commands.Command.TheVariants as cmd
 use Rattle.b1_model.specs.declared.commands.SendCmd.{SendCmd}
-use Rattle.b1_model.specs.declared.naming.Key.{Key}
 use Rattle.b1_model.specs.declared.naming.NodeRef.{NodeRef}
 use Rattle.b1_model.specs.declared.naming.Opening.{Opening}
 use Rattle.b1_model.specs.declared.answers.Reason.{Reason}
 use Rattle.b1_model.specs.declared.answers.Sent.{Sent}
-use Rattle.b1_model.specs.declared.answers.Answer.TheVariants as answer
-use Rattle.b1_model.specs.declared.events.Phase.{Phase}
-use Rattle.b1_model.specs.declared.events.Phase.TheVariants.{Starting, Stamping}
+use Rattle.b1_model.specs.declared.events.Phase.TheVariants.{Stamping}
 use Rattle.b1_model.specs.declared.events.Sending.{Sending}
-use Rattle.b1_model.specs.declared.records.Call.{Call}
 use Rattle.b1_model.specs.declared.records.Record.{Record}
-use Rattle.b1_model.specs.Names.{Node, Name, wired, calls_of, made_in, made, epoch_in, epoch_at, add_new}
-use Rattle.b1_model.specs.Ledger.{got_key, is_accepted, named, table, node_of}
+use Rattle.b1_model.specs.Names.{Node, wired, calls_of, made_in, made, epoch_in, epoch_at, add_new}
+use Rattle.b1_model.specs.Ledger.{is_accepted, named, table, node_of}
 use Rattle.b1_model.specs.Legal.{Legal}
 use Rattle.b1_model.specs.MachineParts.{PeerPart, DriverPart, State}
 use Rattle.b1_model.specs.MachineTables.{node_named}
 use Rattle.b1_model.specs.MachineSend.{final_stamp}
-use Rattle.b1_model.specs.MachineDriver.{send_of}
-use Rattle.b1_model.specs.MachineTook.{as_call}
-use Rattle.b1_model.specs.MachineEvents.{begun_of}
 use Rattle.b1_model.specs.MachineStep.{record_of_state}
-use Rattle.b1_inv.specs.Words.{IsPeer, IsDriver, is_accepted_place}
+use Rattle.b1_inv.specs.Words.{IsPeer, IsDriver}
 use Rattle.b1_inv.specs.Sound.{IsSound}
-use Rattle.b1_ledger.specs.Growth.{Appends, calls_len, sent_call, IsAboveReceipts, GoesTo, all_names}
+use Rattle.b1_ledger.specs.Growth.{Appends, calls_len, sent_call, IsAboveReceipts, all_names}
 use Rattle.b1_ledger.proofs.Sequences.{take-past, take-end}
 use Rattle.b1_ledger.proofs.Calls.{made_new, flat_some}
 use Rattle.b1_ledger.proofs.Kept.{table_kept}
@@ -39,7 +31,7 @@ use Rattle.b1_inv_record.specs.Epochs.{awaits_flush, in_gap, epoch_now, epoch_of
 use Rattle.b1_inv_record.specs.Names.{carried_open}
 use Rattle.b1_inv_record.specs.Right.{IsRight}
 use Rattle.b1_inv_notices.proofs.Turns.{doing_in}
-use Rattle.b1_inv_names.proofs.Numbers.{name_numbers, all_joined, new_names}
+use Rattle.b1_inv_names.proofs.Numbers.{name_numbers, new_names}
 use Rattle.b1_inv_legal.proofs.Named.{named_is, named_epoch}
 use Rattle.b1_inv_legal.proofs.NewStamp.{above_collected, new_stamp}
 
@@ -101,8 +93,7 @@ module _ {o : Opening} {s : State} (sound : IsSound o s) (right : IsRight o s) (
         let n = number_of_node (node_of o.wires t p (calls_len r p)) c.to i y is in
         let node = same_image (node_named x) c.to sending.begun.to i n.0 (right.names.begun.to p d x (doing_in (cmd.Send c) (Stamping sending)) is_driver is_peer is_open) n.1 in
         let by_record : named p (made o.wires t p (calls_len r p)) (table o.wires r p (calls_len r p)) n.0 ≡ Some y =
-        ap (λ tab. named p (made o.wires t p (calls_len r p)) tab n.0) (sym (table_kept o r t p (sent_call c sent) more right.legal p (calls_len r p) (omega arith))) ∙ n.2 in
-        (
+        ap (λ tab. named p (made o.wires t p (calls_len r p)) tab n.0) (sym (table_kept o r t p (sent_call c sent) more right.legal p (calls_len r p) (omega arith))) ∙ n.2 in (
           node.0,
           node.2,
           named_is sound right p d x is_driver is_peer no_gap (made o.wires t p (calls_len r p)) numbers n.0 y node.0 by_record node.1,
