@@ -6,3 +6,4 @@ pub mod Sources
 pub mod Present
 pub mod Keeping
 pub mod Pending
+pub mod FirstNow
