@@ -7,3 +7,4 @@ pub mod Present
 pub mod Keeping
 pub mod Pending
 pub mod FirstNow
+pub mod PendingKept
