@@ -8,3 +8,4 @@ pub mod Keeping
 pub mod Pending
 pub mod FirstNow
 pub mod PendingKept
+pub mod Receipts
