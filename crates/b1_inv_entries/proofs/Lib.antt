@@ -6,3 +6,6 @@ pub mod Sources
 pub mod Present
 pub mod Keeping
 pub mod Pending
+pub mod FirstNow
+pub mod PendingKept
+pub mod Receipts

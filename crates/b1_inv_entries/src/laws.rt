@@ -5,7 +5,7 @@ ghost use Rattle.b1_model.specs.Opening.{IsOpening};
 ghost use Rattle.b1_model.specs.MachineParts.{State};
 ghost use Rattle.b1_model.specs.MachineStep.{Step, opening_state};
 ghost use Rattle.b1_inv.specs.Sound.{IsSound};
-ghost use Rattle.b1_inv_record.specs.Entries.{NoticesBelowStamp, QueuedIsPresent};
+ghost use Rattle.b1_inv_record.specs.Entries.{NoticesBelowStamp, PendingIsStaged, QueuedIsPresent};
 ghost use Rattle.b1_inv_record.specs.Right.{IsRight};
 
 /// A step keeps own notices that are still staged below the stamp of their destruction, and every bus begins so.
@@ -18,4 +18,10 @@ pub fn notices_stay_below_stamps()
 pub fn queued_messages_stay_present()
     ensures opening_QueuedIsPresent { (o : Opening) → IsOpening o → QueuedIsPresent o (opening_state o) }
     ensures kept_QueuedIsPresent { (o : Opening) (s : State) (p : ℕ) (c : Option Command) (t : State) → IsSound o s → IsRight o s → Step o s p c t → QueuedIsPresent o t }
+{}
+
+/// A step leaves a staged message at each node of the present epoch where a SEND still waits, and every bus begins so.
+pub fn waiting_places_stay_staged()
+    ensures opening_PendingIsStaged { (o : Opening) → IsOpening o → PendingIsStaged o (opening_state o) }
+    ensures kept_PendingIsStaged { (o : Opening) (s : State) (p : ℕ) (c : Option Command) (t : State) → IsSound o s → IsRight o s → Step o s p c t → PendingIsStaged o t }
 {}

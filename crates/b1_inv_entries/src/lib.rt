@@ -3,4 +3,4 @@
 
 mod laws;
 
-pub use laws::{notices_stay_below_stamps, queued_messages_stay_present};
+pub use laws::{notices_stay_below_stamps, queued_messages_stay_present, waiting_places_stay_staged};
