@@ -3,3 +3,8 @@ pub mod Turned
 pub mod Flushing
 pub mod Doomed
 pub mod DoomedKept
+pub mod Indices
+pub mod Refs
+pub mod CalmCalls
+pub mod Records
+pub mod Lives
