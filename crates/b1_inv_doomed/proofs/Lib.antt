@@ -8,3 +8,8 @@ pub mod Refs
 pub mod CalmCalls
 pub mod Records
 pub mod Lives
+pub mod Placed
+pub mod Stamped
+pub mod Dying
+pub mod DyingStamped
+pub mod DyingKept
