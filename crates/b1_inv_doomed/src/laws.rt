@@ -5,6 +5,7 @@ ghost use Rattle.b1_model.specs.Opening.{IsOpening};
 ghost use Rattle.b1_model.specs.MachineParts.{State};
 ghost use Rattle.b1_model.specs.MachineStep.{Step, opening_state};
 ghost use Rattle.b1_inv.specs.Sound.{IsSound};
+ghost use Rattle.b1_inv_record.specs.Destructions.{DyingIsDoomed};
 ghost use Rattle.b1_inv_record.specs.Dooming.{DoomsItsNodes, FlushCommands};
 ghost use Rattle.b1_inv_record.specs.Right.{IsRight};
 
@@ -19,4 +20,11 @@ pub fn only_resets_flush()
 pub fn open_destructions_doom_what_they_name()
     ensures opening_DoomsItsNodes { (o : Opening) → IsOpening o → DoomsItsNodes (opening_state o) }
     ensures kept_DoomsItsNodes { (o : Opening) (s : State) (p : ℕ) (c : Option Command) (t : State) → IsSound o s → IsRight o s → Step o s p c t → DoomsItsNodes t }
+{}
+
+/// A step keeps nodes destroyed exactly where the record has their destructions, with their stamps; open destructions
+/// at nodes of their peer's epoch; and those with a stamp in the record, each node at its place. Every bus begins so.
+pub fn destroyed_nodes_stay_recorded()
+    ensures opening_DyingIsDoomed { (o : Opening) → IsOpening o → DyingIsDoomed o (opening_state o) }
+    ensures kept_DyingIsDoomed { (o : Opening) (s : State) (p : ℕ) (c : Option Command) (t : State) → IsSound o s → IsRight o s → Step o s p c t → DyingIsDoomed o t }
 {}

@@ -3,4 +3,6 @@
 
 mod laws;
 
-pub use laws::{only_resets_flush, open_destructions_doom_what_they_name};
+pub use laws::{
+    destroyed_nodes_stay_recorded, only_resets_flush, open_destructions_doom_what_they_name,
+};
