@@ -9,3 +9,5 @@ pub mod Pending
 pub mod FirstNow
 pub mod PendingKept
 pub mod Receipts
+pub mod Origins
+pub mod Behind
