@@ -5,3 +5,4 @@ pub mod Slots
 pub mod Arrives
 pub mod Receives
 pub mod Values
+pub mod Deeds
