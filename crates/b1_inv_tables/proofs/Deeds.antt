@@ -60,10 +60,10 @@ module _ (look : Key → List (Option Node)) (w : Table) (command : Command) whe
   abbrev pub IsStill : Turn → Type 0
   IsStill to = (turn_table look command to w ≡ w) × (turn_gap command to ≡ false)
 
-  quiet_ends : (got : Answer) → is_quiet (as_call command) got ≡ true → IsStill (Ends got)
+  pub quiet_ends : (got : Answer) → is_quiet (as_call command) got ≡ true → IsStill (Ends got)
   quiet_ends got is = (quiet_table look (as_call command) got w is, refl)
 
-  refused_still : (r : Reason) (place : Option ℕ) → IsStill (Ends (refused_at r place))
+  pub refused_still : (r : Reason) (place : Option ℕ) → IsStill (Ends (refused_at r place))
   refused_still r place = quiet_ends (refused_at r place) refl
 
   still_attaching : (sending : Sending) (place slot : ℕ) → IsStill (Goes (attaching sending place slot))
@@ -121,7 +121,7 @@ module _ (look : Key → List (Option Node)) (w : Table) (command : Command) whe
       by true = syncing_still sending stamp place
       by false = committing_still sending stamp (accepted_from 0 sending.places)
 
-  still_visiting : (d : Destruction) (left : List ℕ) → IsStill (Goes (visiting d left))
+  pub still_visiting : (d : Destruction) (left : List ℕ) → IsStill (Goes (visiting d left))
   still_visiting d [] = (refl, refl)
   still_visiting d (peer ∷ rest) = (refl, refl)
 
@@ -190,13 +190,13 @@ module _ (look : Key → List (Option Node)) (w : Table) (command : Command) whe
     Deed phase owed action = (Stays phase owed action ⊎ Empties phase owed action) ⊎ (Receives phase owed action ⊎ (Releases phase owed action ⊎ Flushes phase owed action))
 
     -- in phases without a fixed answer
-    stays_open : (phase : Phase) (owed : List OwedDrop) (action : Action) → phase_table look command phase w ≡ w → awaits_flush command phase ≡ false → is_plain action ≡ true → IsStill (turn_of phase owed action) → Deed phase owed action
+    pub stays_open : (phase : Phase) (owed : List OwedDrop) (action : Action) → phase_table look command phase w ≡ w → awaits_flush command phase ≡ false → is_plain action ≡ true → IsStill (turn_of phase owed action) → Deed phase owed action
     stays_open phase owed action none out_of plain still = inl (inl (record { table = still.0 ∙ sym none; gap = still.1 ∙ sym out_of; plain = plain }))
 
     stays_stamped : (phase : Phase) (owed : List OwedDrop) (action : Action) (stamp : ℕ) → phase_table look command phase w ≡ stamped_table stamp → awaits_flush command phase ≡ is_flushing command → is_plain action ≡ true → IsStamped stamp (turn_of phase owed action) → Deed phase owed action
     stays_stamped phase owed action stamp same gap plain stamped = inl (inl (record { table = stamped.0 ∙ sym same; gap = stamped.1 ∙ sym gap; plain = plain }))
 
-    dropped : (phase : Phase) (one : OwedDrop) (rest : List OwedDrop) → Deed phase (one ∷ rest) (act.DropRefs one.node.owner one.node.serial one.holder one.amount one.clock)
+    pub dropped : (phase : Phase) (one : OwedDrop) (rest : List OwedDrop) → Deed phase (one ∷ rest) (act.DropRefs one.node.owner one.node.serial one.holder one.amount one.clock)
     dropped phase one rest = inl (inl (record { table = ap (λ to. turn_table look command to w) (drop_stays d.me command phase); gap = ap (turn_gap command) (drop_stays d.me command phase); plain = refl }))
 
     -- ---- a destruction gets its stamp
@@ -238,7 +238,7 @@ module _ (look : Key → List (Option Node)) (w : Table) (command : Command) whe
         by false = still_place begun places collected (Ok x.clock)
 
     -- of each phase but the first, where nothing is owed
-    phase_deed : (phase : Phase) → (phase ≡ Starting → ⊥) → Deed phase [] (phase_action d.me d.shut command phase)
+    pub phase_deed : (phase : Phase) → (phase ≡ Starting → ⊥) → Deed phase [] (phase_action d.me d.shut command phase)
     phase_deed Starting other = absurd (other refl)
     phase_deed (Staging begun places collected) other = stays_open (Staging begun places collected) [] _ refl refl refl (stages begun places collected _ _ _ _ _ _)
     phase_deed (Unstaging begun places refused place) other = stays_open (Unstaging begun places refused place) [] _ (refused_goes begun places refused place).0 refl refl (still_unstaging begun places refused (accepted_from (place + 1) places))

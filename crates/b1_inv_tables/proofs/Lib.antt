@@ -6,3 +6,4 @@ pub mod Arrives
 pub mod Receives
 pub mod Values
 pub mod Deeds
+pub mod FirstDeeds
