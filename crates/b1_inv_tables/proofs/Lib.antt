@@ -7,3 +7,5 @@ pub mod Receives
 pub mod Values
 pub mod Deeds
 pub mod FirstDeeds
+pub mod Apart
+pub mod Plain
