@@ -9,3 +9,4 @@ pub mod Deeds
 pub mod FirstDeeds
 pub mod Apart
 pub mod Plain
+pub mod Grown
