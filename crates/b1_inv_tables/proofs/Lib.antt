@@ -10,3 +10,4 @@ pub mod FirstDeeds
 pub mod Apart
 pub mod Plain
 pub mod Grown
+pub mod Kept
