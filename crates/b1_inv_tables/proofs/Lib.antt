@@ -11,3 +11,4 @@ pub mod Apart
 pub mod Plain
 pub mod Grown
 pub mod Kept
+pub mod LinesKept
