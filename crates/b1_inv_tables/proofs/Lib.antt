@@ -12,3 +12,4 @@ pub mod Plain
 pub mod Grown
 pub mod Kept
 pub mod LinesKept
+pub mod Given
