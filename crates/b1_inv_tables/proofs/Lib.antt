@@ -5,3 +5,11 @@ pub mod Slots
 pub mod Arrives
 pub mod Receives
 pub mod Values
+pub mod Deeds
+pub mod FirstDeeds
+pub mod Apart
+pub mod Plain
+pub mod Grown
+pub mod Kept
+pub mod LinesKept
+pub mod Given

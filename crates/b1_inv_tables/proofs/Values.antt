@@ -23,11 +23,7 @@ use Rattle.b1_ledger.proofs.Steps.{quiet_table}
 use Rattle.b1_inv_record.specs.Epochs.{awaits_flush, in_gap}
 use Rattle.b1_inv_notices.proofs.Turns.{doing_in, opened, Parts, parts, going_answer}
 
-module _ (look : Key → List (Option Node)) (start : Table) where
-  -- the table behind the calls of a driver's list
-  abbrev pub listed : DriverPart → Table
-  listed d = table_in look start d.calls
-
+module _ (look : Key → List (Option Node)) where
   -- a command with its answer, if that is fixed
   abbrev pub fixed_table : Command → Option Answer → Table → Table
   fixed_table command None t = t
@@ -39,10 +35,6 @@ module _ (look : Key → List (Option Node)) (start : Table) where
   abbrev pub doing_table : Option Doing → Table → Table
   doing_table None t = t
   doing_table (Some doing) t = phase_table doing.command doing.phase t
-
-  -- behind all calls of a driver
-  abbrev pub value : DriverPart → Table
-  value d = doing_table d.doing (listed d)
 
   -- what a turn makes of the table
   abbrev pub turn_table : Command → Turn → Table → Table
@@ -72,30 +64,39 @@ module _ (look : Key → List (Option Node)) (start : Table) where
       by None = refl
       by (Some got) = call_table doing.command got t
 
-  pub value_is : (d : DriverPart) → table_in look start (driver_calls d) ≡ value d
-  value_is d = table_in-append look start d.calls (open_by d.doing) ∙ open_table d.doing (listed d)
+  module _ (start : Table) where
+    -- the table behind the calls of a driver's list
+    abbrev pub listed : DriverPart → Table
+    listed d = table_in look start d.calls
 
-  goes_value : (b : Bool) (got : Option Answer) (d : DriverPart) (command : Command) (phase : Phase) → got ≡ answer_of command phase → value (goes_by b got d command phase) ≡ phase_table command phase (listed d)
-  goes_value false got d command phase is = refl
-  goes_value true None d command phase is = refl
-  goes_value true (Some got) d command phase is = table_in-append look start d.calls (call_of command got) ∙ call_table command got (listed d) ∙ ap (λ z. fixed_table command z (listed d)) is
+    -- behind all calls of a driver
+    abbrev pub value : DriverPart → Table
+    value d = doing_table d.doing (listed d)
 
-  turned_value : (d : DriverPart) (command : Command) (to : Turn) → value (turned d command to) ≡ turn_table command to (listed d)
-  turned_value d command (Goes phase) = goes_value (is_done d.owed d.told phase) (answer_of command phase) d command phase refl
-  turned_value d command (Ends got) = table_in-append look start d.calls (call_of command got) ∙ call_table command got (listed d)
+    pub value_is : (d : DriverPart) → table_in look start (driver_calls d) ≡ value d
+    value_is d = table_in-append look start d.calls (open_by d.doing) ∙ open_table d.doing (listed d)
 
-  pub took_value : (d : DriverPart) (command : Command) (phase : Phase) (owed : List OwedDrop) (outcome : Outcome) → value (took (opened d command phase owed) outcome) ≡ turn_table command (turn d.me command phase outcome) (listed d)
-  took_value d command phase owed outcome = turned_value (with_facts (opened d command phase owed) (doing_in command phase) outcome) command (turn d.me command phase outcome)
+    goes_value : (b : Bool) (got : Option Answer) (d : DriverPart) (command : Command) (phase : Phase) → got ≡ answer_of command phase → value (goes_by b got d command phase) ≡ phase_table command phase (listed d)
+    goes_value false got d command phase is = refl
+    goes_value true None d command phase is = refl
+    goes_value true (Some got) d command phase is = table_in-append look start d.calls (call_of command got) ∙ call_table command got (listed d) ∙ ap (λ z. fixed_table command z (listed d)) is
 
-  module _ {o : Opening} {s : State} {p : ℕ} {c : Option Command} {t : State} (step : Step o s p c t) where
-    pub value_before : value step.driver ≡ phase_table (parts step).command (parts step).phase (listed step.driver)
-    value_before = elim (parts step).was [
-      | inl is ↦ ap (λ z. doing_table z (listed step.driver)) is
-      | inr new ↦ ap (λ z. doing_table z (listed step.driver)) new.0 ∙ ap (λ z. phase_table (parts step).command z (listed step.driver)) (sym new.1)
-    ]
+    turned_value : (d : DriverPart) (command : Command) (to : Turn) → value (turned d command to) ≡ turn_table command to (listed d)
+    turned_value d command (Goes phase) = goes_value (is_done d.owed d.told phase) (answer_of command phase) d command phase refl
+    turned_value d command (Ends got) = table_in-append look start d.calls (call_of command got) ∙ call_table command got (listed d)
 
-    pub value_behind : value step.new_driver ≡ turn_table (parts step).command (turn step.driver.me (parts step).command (parts step).phase (going_answer step)) (listed step.driver)
-    value_behind = ap value (sym (parts step).is_driver) ∙ took_value step.driver (parts step).command (parts step).phase step.driver.owed (going_answer step)
+    pub took_value : (d : DriverPart) (command : Command) (phase : Phase) (owed : List OwedDrop) (outcome : Outcome) → value (took (opened d command phase owed) outcome) ≡ turn_table command (turn d.me command phase outcome) (listed d)
+    took_value d command phase owed outcome = turned_value (with_facts (opened d command phase owed) (doing_in command phase) outcome) command (turn d.me command phase outcome)
+
+    module _ {o : Opening} {s : State} {p : ℕ} {c : Option Command} {t : State} (step : Step o s p c t) where
+      pub value_before : value step.driver ≡ phase_table (parts step).command (parts step).phase (listed step.driver)
+      value_before = elim (parts step).was [
+        | inl is ↦ ap (λ z. doing_table z (listed step.driver)) is
+        | inr new ↦ ap (λ z. doing_table z (listed step.driver)) new.0 ∙ ap (λ z. phase_table (parts step).command z (listed step.driver)) (sym new.1)
+      ]
+
+      pub value_behind : value step.new_driver ≡ turn_table (parts step).command (turn step.driver.me (parts step).command (parts step).phase (going_answer step)) (listed step.driver)
+      value_behind = ap value (sym (parts step).is_driver) ∙ took_value step.driver (parts step).command (parts step).phase step.driver.owed (going_answer step)
 
 -- ---- the gap of a reset, by the turn
 
