@@ -52,6 +52,10 @@ awaits_parts d q serial me is =
     let k = and_parts (is_uncommitted d d.me) (is_among serial (doomed_now d)) is in
     (ap (is_uncommitted d) (sym me) ∙ k.0, among_has serial (doomed_now d) k.1)
 
+-- a notice's key under the stamp is that of its place
+under_stamp : (stamp p i : ℕ) (k key : Key) → k.origin ≡ p → k.index ≡ i → record { stamp = stamp; origin = p; index = i } ≡ key → record { stamp = stamp; origin = k.origin; index = k.index } ≡ key
+under_stamp stamp p i k key origin index same = ap {A = ℕ} {B = Key} (λ q. record { stamp = stamp; origin = q; index = k.index }) origin ∙ ap {A = ℕ} {B = Key} (λ j. record { stamp = stamp; origin = p; index = j }) index ∙ same
+
 node_taken : (x : PeerPart) (serial : ℕ) (n : NodePart) → slice_get x.nodes serial ≡ Some n → (node_at x serial).taken ≡ n.taken
 node_taken x serial n at = ap (λ m. m.taken) (get_or_from_slice_get x.nodes serial n no_node at)
 
@@ -127,10 +131,10 @@ module _ {o : Opening} {s : State} {p : ℕ} {c : Option Command} {t : State} (s
           let opened_now = is_open sound right step k.0 k.1 k.2 k.3 in
           stamped_key_before sound right step k.0 k.1 k.2 k.3 serial key
           (λ h.
-            let both : true ≡ false =
-                sym (awaits_is step.driver p serial me_is (ap (λ doing. elim doing [ None ↦ false | Some one ↦ phase_uncommitted step.driver.me one.phase p ]) opened_now)
-                (subst (λ list. Has list serial) (sym (ap (λ doing. elim doing [ None ↦ [] | Some one ↦ doomed_of one.phase ]) opened_now)) h)) ∙ none in
-            absurd (cc both))
+          let both : true ≡ false =
+          sym (awaits_is step.driver p serial me_is (ap (λ doing. elim doing [ None ↦ false | Some one ↦ phase_uncommitted step.driver.me one.phase p ]) opened_now)
+          (subst (λ list. Has list serial) (sym (ap (λ doing. elim doing [ None ↦ [] | Some one ↦ doomed_of one.phase ]) opened_now)) h)) ∙ none in
+          absurd (cc both))
           has
 
   -- a node that awaits the commit does so afterwards, but for that commit
@@ -147,9 +151,9 @@ module _ {o : Opening} {s : State} {p : ℕ} {c : Option Command} {t : State} (s
   still_awaits : (i serial : ℕ) → slice_get (doomed_now step.driver) i ≡ Some serial → is_uncommitted step.driver p ≡ true → Elsewhere step.driver.me (parts step).phase (going_answer step) step.driver.me → awaits_commit step.new_driver serial ≡ true
   still_awaits i serial at waits away =
       let after =
-          subst (λ e. Awaited step.driver.me e.doing step.driver.me i serial) (parts step).is_driver
-          (waits_took (parts step).command step.driver.me step.driver.me i serial step.driver (parts step).phase step.driver.owed (going_answer step) refl
-          (waits_turn (parts step).command step.driver.me step.driver.me i serial (parts step).phase (going_answer step) away (waits_before i serial at waits))) in
+      subst (λ e. Awaited step.driver.me e.doing step.driver.me i serial) (parts step).is_driver
+      (waits_took (parts step).command step.driver.me step.driver.me i serial step.driver (parts step).phase step.driver.owed (going_answer step) refl
+      (waits_turn (parts step).command step.driver.me step.driver.me i serial (parts step).phase (going_answer step) away (waits_before i serial at waits))) in
       let same = (step_grows step).me in
       awaits_is step.new_driver p serial (same ∙ me_is)
       (ap (λ q. is_uncommitted step.new_driver q) (sym me_is) ∙ ap (λ m. uncommitted_in m step.new_driver.doing step.driver.me) same ∙ after.waits)
@@ -167,8 +171,7 @@ module _ {o : Opening} {s : State} {p : ℕ} {c : Option Command} {t : State} (s
       let same : record { stamp = stamp; origin = p; index = i } ≡ key = same_Some _ key (sym (doomed_stays sound right.destructions.numbers step (own_ref p serial) (record { stamp = stamp; origin = p; index = i }) placed) ∙ has) in
       let staged_too : is_staged_notice step.driver.me (notice.0, OwnNotice serial i) ≡ true = ap (λ b. b && (notice.0.origin == step.driver.me)) notice.2 ∙ eq-eqb notice.0.origin step.driver.me (shape.0 ∙ sym me_is) in
       let queued = commits step.peer step.driver.me stamp (notice.0, OwnNotice serial i) notice.1 staged_too in
-      let under : record { stamp = stamp; origin = notice.0.origin; index = notice.0.index } ≡ key =
-          ap (λ q. record { stamp = stamp; origin = q; index = notice.0.index }) shape.0 ∙ ap (λ j. record { stamp = stamp; origin = p; index = j }) shape.1 ∙ same in
+      let under = under_stamp stamp p i notice.0 key shape.0 shape.1 same in
       subst (λ k. Has (happens o step.local.memory (going step) (going_doing step) (act.CommitNotices peer stamp) step.peer).1.queue (k, OwnNotice serial k.index)) under
       (subst (λ j. Has (happens o step.local.memory (going step) (going_doing step) (act.CommitNotices peer stamp) step.peer).1.queue (record { stamp = stamp; origin = notice.0.origin; index = notice.0.index }, OwnNotice serial j)) (sym shape.1) queued)
   committed_now action i serial key here is stamped at waits has = absurd (cc is)

@@ -81,8 +81,8 @@ before_grows ws p calls more =
     let up = epoch_up (epoch_in 0 calls) more in
     let k = below_more (epoch_in 0 calls) (epoch_in (epoch_in 0 calls) more) (made_in 0 (wired ws p) calls) names.0 up in
     let same : made_before ws p (calls ++ more) ≡ length (below (epoch_in (epoch_in 0 calls) more) (made_in 0 (wired ws p) calls ++ names.0)) =
-        ap (λ e. length (below e (made_in 0 (wired ws p) (calls ++ more)))) (epoch_in-append 0 calls more)
-        ∙ ap (λ l. length (below (epoch_in (epoch_in 0 calls) more) l)) (made_in-append 0 (wired ws p) calls more ∙ names.1) in
+    ap (λ e. length (below e (made_in 0 (wired ws p) (calls ++ more)))) (epoch_in-append 0 calls more)
+    ∙ ap (λ l. length (below (epoch_in (epoch_in 0 calls) more) l)) (made_in-append 0 (wired ws p) calls more ∙ names.1) in
     omega (arith, k, same)
 
 -- ---- behind a flush
