@@ -130,7 +130,7 @@ discard_nodes (OwnNotice serial index) x = refl
 discard_nodes (ForeignNotice node index) x = refl
 discard_nodes (ReleaseNotice serial) x = refl
 
-discards_nodes : (es : List (Key × Entry)) (x : PeerPart) → (fold (λ z f. discarded z f.1) x es).nodes ≡ x.nodes
+pub discards_nodes : (es : List (Key × Entry)) (x : PeerPart) → (fold (λ z f. discarded z f.1) x es).nodes ≡ x.nodes
 discards_nodes [] x = refl
 discards_nodes (f ∷ rest) x = discards_nodes rest (discarded x f.1) ∙ discard_nodes f.1 x
 

@@ -83,7 +83,7 @@ opening_calls o p = recorded (opening_state o) p (let k = opening_numbered o in 
     by None is = refl
     by (Some d) is = ap driver_calls (opening_idle o p d is)
 
-opening_keys : (o : Opening) (node : NodeRef) → doomed_key o (opening_state o) node ≡ None
+pub opening_keys : (o : Opening) (node : NodeRef) → doomed_key o (opening_state o) node ≡ None
 opening_keys o node = ap (λ n. doom_from node (destructions_before o.wires (record_of_state (opening_state o)) node.owner n)) (ap length (opening_calls o node.owner))
 
 pub dying_begins : (o : Opening) → DyingIsDoomed o (opening_state o)

@@ -170,3 +170,14 @@ module _ {o : Opening} {s : State} {p : ℕ} {c : Option Command} {t : State} (s
         subst (λ q. doomed_key o t (own_ref q serial) ≡ Some (record { stamp = other; origin = q; index = i })) (sym own.0)
         (doomed_has i serial k.1 (has_at destruction.doomed i serial k.1) ∙ ap (λ n. Some (record { stamp = n; origin = p; index = i })) (sym k.0))
   ]
+
+  -- a node that isn't doomed has its key from before
+  pub stamped_key_before : (serial : ℕ) (key : Key) → (Has destruction.doomed serial → ⊥) → doomed_key o t (own_ref p serial) ≡ Some key → doomed_key o s (own_ref p serial) ≡ Some key
+  stamped_key_before serial key none has = by (doomed_key o s (own_ref p serial)) refl
+    where
+      by : (r : Option Key) → doomed_key o s (own_ref p serial) ≡ r → r ≡ Some key
+      by (Some k) is = ap Some (same_Some k key (sym (doomed_stays sound right.destructions.numbers step (own_ref p serial) k is) ∙ has))
+      by None is =
+          let absent : index (λ j. j == serial) destruction.doomed ≡ None = index_none (λ j. j == serial) destruction.doomed (λ j h. ne_eqb j serial (λ same. none (subst (Has destruction.doomed) same h))) in
+          let both : None ≡ Some key = sym (new_key serial is ∙ ap (option_map key_at) absent) ∙ has in
+          absurd (cc both)

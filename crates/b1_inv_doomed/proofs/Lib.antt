@@ -13,3 +13,7 @@ pub mod Stamped
 pub mod Dying
 pub mod DyingStamped
 pub mod DyingKept
+pub mod NoticeStays
+pub mod FirstNow
+pub mod Ended
+pub mod OwnRight

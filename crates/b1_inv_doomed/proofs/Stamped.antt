@@ -193,7 +193,7 @@ module _ {o : Opening} {s : State} {p : ℕ} {c : Option Command} {t : State} (s
   pub new_doom : (named : List (Option Node)) × (destructions_of o.wires (record_of_state t) p ≡ destructions_of o.wires (record_of_state s) p ++ record { stamp = given; origin = p; nodes = named } ∷ []) × (refs named ≡ own_refs p destruction.doomed)
   new_doom =
       let k = doom_of p given known (table o.wires (record_of_state t) p (length before)) (destructions_of o.wires (record_of_state s) p) step.peer.nodes destruction.doomed known_numbers (lengths known step.peer.nodes known_numbers) gone command shape.0
-          (right.destructions.numbers.opened p step.driver (doing_in command (Dooming destruction)) step.is_driver is_open refl)
-          (λ numbers same. right.destructions.doomed.named p numbers step.driver step.peer (doing_in command (Dooming destruction)) step.is_driver is_peer is_open same refl)
-          (λ flushing. right.destructions.doomed.flushed p step.driver step.peer (doing_in command (Dooming destruction)) step.is_driver is_peer is_open flushing refl) in
+      (right.destructions.numbers.opened p step.driver (doing_in command (Dooming destruction)) step.is_driver is_open refl)
+      (λ numbers same. right.destructions.doomed.named p numbers step.driver step.peer (doing_in command (Dooming destruction)) step.is_driver is_peer is_open same refl)
+      (λ flushing. right.destructions.doomed.flushed p step.driver step.peer (doing_in command (Dooming destruction)) step.is_driver is_peer is_open flushing refl) in
       (k.0, one_dooms o.wires (record_of_state s) (record_of_state t) p new_call record_calls (own_before sound right.destructions.numbers step p) ∙ ap (λ ds. destructions_of o.wires (record_of_state s) p ++ ds) k.1, k.2)

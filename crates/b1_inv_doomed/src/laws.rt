@@ -5,7 +5,7 @@ ghost use Rattle.b1_model.specs.Opening.{IsOpening};
 ghost use Rattle.b1_model.specs.MachineParts.{State};
 ghost use Rattle.b1_model.specs.MachineStep.{Step, opening_state};
 ghost use Rattle.b1_inv.specs.Sound.{IsSound};
-ghost use Rattle.b1_inv_record.specs.Destructions.{DyingIsDoomed};
+ghost use Rattle.b1_inv_record.specs.Destructions.{DyingIsDoomed, OwnNoticeRight};
 ghost use Rattle.b1_inv_record.specs.Dooming.{DoomsItsNodes, FlushCommands};
 ghost use Rattle.b1_inv_record.specs.Right.{IsRight};
 
@@ -27,4 +27,12 @@ pub fn open_destructions_doom_what_they_name()
 pub fn destroyed_nodes_stay_recorded()
     ensures opening_DyingIsDoomed { (o : Opening) → IsOpening o → DyingIsDoomed o (opening_state o) }
     ensures kept_DyingIsDoomed { (o : Opening) (s : State) (p : ℕ) (c : Option Command) (t : State) → IsSound o s → IsRight o s → Step o s p c t → DyingIsDoomed o t }
+{}
+
+/// A step keeps each doomed node's own notice staged at its place until the commit at its own peer, and from then on
+/// queued under the destruction's key, until it is taken or flushed; with all else that is said of own notices. Every
+/// bus begins so.
+pub fn own_notices_stay_where_they_are()
+    ensures opening_OwnNoticeRight { (o : Opening) → IsOpening o → OwnNoticeRight o (opening_state o) }
+    ensures kept_OwnNoticeRight { (o : Opening) (s : State) (p : ℕ) (c : Option Command) (t : State) → IsSound o s → IsRight o s → Step o s p c t → OwnNoticeRight o t }
 {}

@@ -5,4 +5,5 @@ mod laws;
 
 pub use laws::{
     destroyed_nodes_stay_recorded, only_resets_flush, open_destructions_doom_what_they_name,
+    own_notices_stay_where_they_are,
 };
