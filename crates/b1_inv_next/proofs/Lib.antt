@@ -1,3 +1,5 @@
 pub mod Facts
 pub mod Epochs
 pub mod OpenSends
+pub mod Idle
+pub mod Messages

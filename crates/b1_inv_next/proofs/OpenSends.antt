@@ -42,7 +42,7 @@ use Rattle.b1_inv_legal.proofs.Sends.{number_of_node, same_image}
 use Rattle.b1_inv_next.proofs.Facts.{SentBy, sent_by}
 
 -- a phase of a SEND with its stamp
-abbrev is_stamped : Phase → Bool
+abbrev pub is_stamped : Phase → Bool
 is_stamped (Syncing sending stamp place) = true
 is_stamped (Committing sending stamp place) = true
 is_stamped phase = false

@@ -157,7 +157,7 @@ turned_calls d command (Goes phase) = by (is_done d.owed d.told phase) (answer_o
 turned_calls d command (Ends got) = append-nil (d.calls ++ call_of command got)
 
 -- the first node of the present epoch isn't above the nodes that were made
-names_grow : (e : ℕ) (known : List Name) (ns : List ℕ) → length known ≤ length (add_new e known ns)
+pub names_grow : (e : ℕ) (known : List Name) (ns : List ℕ) → length known ≤ length (add_new e known ns)
 names_grow e known [] = omega arith
 names_grow e known (n ∷ rest) =
     let more = names_grow e (cond (is_own n && not (is_known n known)) (known ++ record { number = n; epoch = e } ∷ []) known) rest in
