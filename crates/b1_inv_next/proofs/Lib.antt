@@ -3,3 +3,4 @@ pub mod Epochs
 pub mod OpenSends
 pub mod Idle
 pub mod Messages
+pub mod Notices
