@@ -4,3 +4,5 @@ pub mod OpenSends
 pub mod Idle
 pub mod Messages
 pub mod Notices
+pub mod Nobody
+pub mod Fronts

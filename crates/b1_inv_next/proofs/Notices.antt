@@ -68,6 +68,31 @@ module _ {o : Opening} {s : State} (sound : IsSound o s) (right : IsRight o s) w
   driver_of : (q : ℕ) (y : PeerPart) → IsPeer s q y → (e : DriverPart) × IsDriver s q e
   driver_of q y is = get_there s.drivers q (let within = slice_get_within s.peers q y is in let same = as_many sound right in omega (arith, within, same))
 
+  module _ (p : ℕ) (d : DriverPart) (x : PeerPart) (is_driver : IsDriver s p d) (is_peer : IsPeer s p x) (idle : d.doing ≡ None) where
+    of_line : (y : Node) (l : Line) → is_the_node y l.node ≡ true → (h : HandleRecord) → is_ref h.node l.node ≡ true → h.node ≡ ref_of y
+    of_line y l same h of = by l.node same of
+      where
+        by : (node : Option Node) → is_the_node y node ≡ true → is_ref h.node node ≡ true → h.node ≡ ref_of y
+        by None one two = absurd (cc one)
+        by (Some z) one two =
+            let a = and_parts (y.owner == z.owner) (y.serial == z.serial) one in
+            let b = and_parts (z.owner == h.node.owner) (z.serial == h.node.serial) two in
+            sym (same_ref_is (ref_of y) h.node (both_same (eqb-true y.owner z.owner a.0 ∙ eqb-true z.owner h.node.owner b.0) (eqb-true y.serial z.serial a.1 ∙ eqb-true z.serial h.node.serial b.1)))
+          where
+            both_same : y.owner ≡ h.node.owner → y.serial ≡ h.node.serial → same_ref (ref_of y) h.node ≡ true
+            both_same owner serial = and_of (y.owner == h.node.owner) (y.serial == h.node.serial) (eq-eqb y.owner h.node.owner owner) (eq-eqb y.serial h.node.serial serial)
+
+    -- a line of the table is of a record that is held
+    pub line_held : (y : Node) → is_some (line_number y (table o.wires r p (calls_len r p)).lines) ≡ true → (h : HandleRecord) × Has x.handles h × (h.node ≡ ref_of y) × (1 ≤ h.held)
+    line_held y is = by (line_number y (table o.wires r p (calls_len r p)).lines) refl is
+      where
+        by : (found : Option ℕ) → line_number y (table o.wires r p (calls_len r p)).lines ≡ found → is_some found ≡ true → (h : HandleRecord) × Has x.handles h × (h.node ≡ ref_of y) × (1 ≤ h.held)
+        by None at none = absurd (cc none)
+        by (Some number) at some =
+            let l = line_number_of y (table o.wires r p (calls_len r p)).lines number at in
+            let g = right.names.lines.lines p d x l.0 is_driver is_peer (no_gap sound right p d x is_driver is_peer idle) l.1 in
+            (g.0, g.1, of_line y l.0 l.3 g.0 g.2.2, ((sound.numbers.numbered p x is_peer).held g.0 l.0.number g.1 g.2.0).0)
+
   module _ (p : ℕ) (d : DriverPart) (x : PeerPart) (is_driver : IsDriver s p d) (is_peer : IsPeer s p x) (idle : d.doing ≡ None) (key : Key) (above : is_above key (last_key r p (calls_len r p)) ≡ true) where
     -- the end of an own node
     own_queued : (y : Node) → doomed_at o.wires r key ≡ Some y → y.owner ≡ p → (y.epoch == epoch_at r p (calls_len r p)) ≡ true → Queued x key
@@ -143,29 +168,8 @@ module _ {o : Opening} {s : State} (sound : IsSound o s) (right : IsRight o s) w
         | inr (dies, due) ↦ let both : true ≡ false = sym dies ∙ ap (λ node. is_dying (node_at owner.0 node.serial).state) of ∙ ap is_dying destroyed in absurd (cc both)
       ]
 
-    -- a line of the table is of a record that is held
     line_queued : (y : Node) → doomed_at o.wires r key ≡ Some y → is_some (line_number y (table o.wires r p (calls_len r p)).lines) ≡ true → Queued x key
-    line_queued y doomed is = by (line_number y (table o.wires r p (calls_len r p)).lines) refl is
-      where
-        of_line : (l : Line) → is_the_node y l.node ≡ true → (h : HandleRecord) → is_ref h.node l.node ≡ true → h.node ≡ ref_of y
-        of_line l same h of = by (l.node) same of
-          where
-            by : (node : Option Node) → is_the_node y node ≡ true → is_ref h.node node ≡ true → h.node ≡ ref_of y
-            by None one two = absurd (cc one)
-            by (Some z) one two =
-                let a = and_parts (y.owner == z.owner) (y.serial == z.serial) one in
-                let b = and_parts (z.owner == h.node.owner) (z.serial == h.node.serial) two in
-                sym (same_ref_is (ref_of y) h.node (both_same (eqb-true y.owner z.owner a.0 ∙ eqb-true z.owner h.node.owner b.0) (eqb-true y.serial z.serial a.1 ∙ eqb-true z.serial h.node.serial b.1)))
-              where
-                both_same : y.owner ≡ h.node.owner → y.serial ≡ h.node.serial → same_ref (ref_of y) h.node ≡ true
-                both_same one two = and_of (y.owner == h.node.owner) (y.serial == h.node.serial) (eq-eqb y.owner h.node.owner one) (eq-eqb y.serial h.node.serial two)
-
-        by : (found : Option ℕ) → line_number y (table o.wires r p (calls_len r p)).lines ≡ found → is_some found ≡ true → Queued x key
-        by None at none = absurd (cc none)
-        by (Some number) at some =
-            let l = line_number_of y (table o.wires r p (calls_len r p)).lines number at in
-            let g = right.names.lines.lines p d x l.0 is_driver is_peer (no_gap sound right p d x is_driver is_peer idle) l.1 in
-            held_queued y doomed g.0 g.1 (of_line l.0 l.3 g.0 g.2.2) ((sound.numbers.numbered p x is_peer).held g.0 l.0.number g.1 g.2.0).0
+    line_queued y doomed is = let g = line_held p d x is_driver is_peer idle y is in held_queued y doomed g.0 g.1 g.2 g.3
 
     by_doomed : (found : Option Node) → doomed_at o.wires r key ≡ found → is_notice_of o.wires r p (calls_len r p) found ≡ true → Queued x key
     by_doomed None doomed is = absurd (cc is)
