@@ -109,7 +109,7 @@ module _ {o : Opening} {s : State} (sound : IsSound o s) (right : IsRight o s) (
       mine k serial index (inr further) = subst (λ q. Has q (k, OwnNotice serial index)) (sym same.0) further
       mine k serial index (inl first) = let both : false ≡ true = ap (λ h. is_for_nobody y h.1) first ∙ nobody in absurd (cc both)
 
-  all_removed : Kept (cleared x) × Settled (cleared x) × Rising (cleared x).handles
+  pub all_removed : Kept (cleared x) × Settled (cleared x) × Rising (cleared x).handles
   all_removed = cleared_by Kept removed x (sound.rising p x is_peer) (record {
     candidates = candidate_queued sound right p d x is_driver is_peer idle;
     was = λ f has. has;
@@ -123,19 +123,19 @@ module _ {o : Opening} {s : State} (sound : IsSound o s) (right : IsRight o s) (
     kept : Kept (cleared x)
     kept = all_removed.0
 
-    there : Has x.queue f
+    pub there : Has x.queue f
     there = kept.was f (subst (λ q. Has q f) (sym front) (inl refl))
 
-    served : is_for_nobody x f.1 ≡ true → ⊥
+    pub served : is_for_nobody x f.1 ≡ true → ⊥
     served nobody =
         let goes : is_removed (cleared x) f ≡ false = all_removed.1 f rest front in
         let both : true ≡ false = sym (and_of (not (is_staged f)) (is_for_nobody (cleared x) f.1) (ap not even) (nobody_same (cleared x) f.1 kept ∙ nobody)) ∙ goes in cc both
 
-    ascending : Ascending (f ∷ rest)
+    pub ascending : Ascending (f ∷ rest)
     ascending = subst Ascending front kept.ascending
 
     -- no candidate is below the front
-    least : IsLeast o.wires r p (calls_len r p) f.0
+    pub least : IsLeast o.wires r p (calls_len r p) f.0
     least other candidate = by (kept.candidates other candidate)
       where
         by : Queued (cleared x) other → is_below other f.0 ≡ false
@@ -148,7 +148,7 @@ module _ {o : Opening} {s : State} (sound : IsSound o s) (right : IsRight o s) (
             at (inr further) (inr (odd, low)) = not_above f.0 g.0 other (below_is_less f.0 g.0 ∙ behind_has f.0 rest g ascending.0 further) low
 
     -- the front is above the last key
-    above : is_above f.0 (last_key r p (calls_len r p)) ≡ true
+    pub above : is_above f.0 (last_key r p (calls_len r p)) ≡ true
     above = by (last_key r p (calls_len r p)) refl
       where
         by : (last : Option Key) → last_key r p (calls_len r p) ≡ last → is_above f.0 last ≡ true

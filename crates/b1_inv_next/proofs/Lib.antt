@@ -6,3 +6,4 @@ pub mod Messages
 pub mod Notices
 pub mod Nobody
 pub mod Fronts
+pub mod FrontNext
