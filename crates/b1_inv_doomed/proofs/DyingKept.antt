@@ -76,7 +76,7 @@ counted_live node dest x live = still_live x (wire_counted node dest x) (node_ke
 opening_live : (o : Opening) (q : ℕ) (x : PeerPart) → IsPeer (opening_state o) q x → AllLive x
 opening_live o = opening_each AllLive made_live counted_live (λ node x live. live) o (λ me spec serial low. absurd (omega (arith, low)))
 
-opening_calls : (o : Opening) (p : ℕ) → calls_of (record_of_state (opening_state o)) p ≡ []
+pub opening_calls : (o : Opening) (p : ℕ) → calls_of (record_of_state (opening_state o)) p ≡ []
 opening_calls o p = recorded (opening_state o) p (let k = opening_numbered o in k.as_many_peers ∙ sym k.as_many_drivers) ∙ by (slice_get (opening_state o).drivers p) refl
   where
     by : (d : Option DriverPart) → slice_get (opening_state o).drivers p ≡ d → calls_by d ≡ []

@@ -42,7 +42,7 @@ module _ {o : Opening} {s : State} {p : ℕ} {c : Option Command} {t : State} (s
   abbrev here_at : step.at ≡ p
   here_at = at_is sound right step destruction dooming none_owed none_late
 
-  there : IsPeer s p step.peer
+  pub there : IsPeer s p step.peer
   there = is_peer sound right step destruction dooming none_owed none_late
 
   key_at : ℕ → Key
@@ -75,12 +75,16 @@ module _ {o : Opening} {s : State} {p : ℕ} {c : Option Command} {t : State} (s
       new_key serial (none_before serial h)
       ∙ ap (option_map key_at) (index_once destruction.doomed i serial (shape sound right step destruction dooming none_owed none_late).1.apart at)
 
+  pub doomed_key_now : (i serial : ℕ) → slice_get destruction.doomed i ≡ Some serial → doomed_key o t (own_ref p serial) ≡ Some (record { stamp = stamp; origin = p; index = i })
+  unfolding key_at
+  doomed_key_now i serial at = doomed_has i serial at (has_at destruction.doomed i serial at)
+
   -- ---- the nodes
 
   nodes_are : step.new_peer.nodes ≡ with_nodes destruction.doomed (in_state (Destroyed stamp)) step.peer.nodes
   nodes_are = ap (λ z. z.nodes) (peer_is sound right step destruction dooming none_owed none_late)
 
-  as_before : (q : ℕ) (y : PeerPart) → IsPeer t q y → ((q ≡ p) × (y.nodes ≡ with_nodes destruction.doomed (in_state (Destroyed stamp)) step.peer.nodes)) ⊎ ((q ≢ p) × IsPeer s q y)
+  pub as_before : (q : ℕ) (y : PeerPart) → IsPeer t q y → ((q ≡ p) × (y.nodes ≡ with_nodes destruction.doomed (in_state (Destroyed stamp)) step.peer.nodes)) ⊎ ((q ≢ p) × IsPeer s q y)
   as_before q y is = elim (peer_cases step q y is) [
     | inl here ↦ inl (here.0 ∙ here_at, ap (λ z. z.nodes) here.1 ∙ nodes_are)
     | inr other ↦ inr (λ same. other.0 (same ∙ sym here_at), other.1)

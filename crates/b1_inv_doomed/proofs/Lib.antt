@@ -17,3 +17,6 @@ pub mod NoticeStays
 pub mod FirstNow
 pub mod Ended
 pub mod OwnRight
+pub mod KeyPlaces
+pub mod KeysStamped
+pub mod KeysKept

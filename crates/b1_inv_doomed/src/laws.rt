@@ -5,7 +5,7 @@ ghost use Rattle.b1_model.specs.Opening.{IsOpening};
 ghost use Rattle.b1_model.specs.MachineParts.{State};
 ghost use Rattle.b1_model.specs.MachineStep.{Step, opening_state};
 ghost use Rattle.b1_inv.specs.Sound.{IsSound};
-ghost use Rattle.b1_inv_record.specs.Destructions.{DyingIsDoomed, OwnNoticeRight};
+ghost use Rattle.b1_inv_record.specs.Destructions.{DoomKeysRight, DyingIsDoomed, OwnNoticeRight};
 ghost use Rattle.b1_inv_record.specs.Dooming.{DoomsItsNodes, FlushCommands};
 ghost use Rattle.b1_inv_record.specs.Right.{IsRight};
 
@@ -35,4 +35,11 @@ pub fn destroyed_nodes_stay_recorded()
 pub fn own_notices_stay_where_they_are()
     ensures opening_OwnNoticeRight { (o : Opening) → IsOpening o → OwnNoticeRight o (opening_state o) }
     ensures kept_OwnNoticeRight { (o : Opening) (s : State) (p : ℕ) (c : Option Command) (t : State) → IsSound o s → IsRight o s → Step o s p c t → OwnNoticeRight o t }
+{}
+
+/// A step keeps the node at a notice's key in the record, and the key of a node's notice, inverse to one another: each
+/// node is destroyed once. Every bus begins so.
+pub fn each_node_is_destroyed_once()
+    ensures opening_DoomKeysRight { (o : Opening) → IsOpening o → DoomKeysRight o (opening_state o) }
+    ensures kept_DoomKeysRight { (o : Opening) (s : State) (p : ℕ) (c : Option Command) (t : State) → IsSound o s → IsRight o s → Step o s p c t → DoomKeysRight o t }
 {}

@@ -1,0 +1,15 @@
+ghost use Rattle.std.specs.Prelude.{ℕ, Option};
+ghost use Rattle.b1_model.specs.declared.naming.Opening.{Opening};
+ghost use Rattle.b1_model.specs.declared.commands.Command.{Command};
+ghost use Rattle.b1_model.specs.Opening.{IsOpening};
+ghost use Rattle.b1_model.specs.MachineParts.{State};
+ghost use Rattle.b1_model.specs.MachineStep.{Step, opening_state};
+ghost use Rattle.b1_inv.specs.Sound.{IsSound};
+ghost use Rattle.b1_inv_record.specs.Right.{DestructionsRight, IsRight};
+
+/// A step keeps all that is said of destructions and their notices: which nodes are destroyed, what open destructions
+/// doom, and where each notice is or was taken. Every bus begins so.
+pub fn destructions_stay_right()
+    ensures opening_DestructionsRight { (o : Opening) → IsOpening o → DestructionsRight o (opening_state o) }
+    ensures kept_DestructionsRight { (o : Opening) (s : State) (p : ℕ) (c : Option Command) (t : State) → IsSound o s → IsRight o s → Step o s p c t → DestructionsRight o t }
+{}

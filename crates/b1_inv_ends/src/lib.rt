@@ -1,0 +1,6 @@
+//! Destroy notices over every interleaving: what destructions do, whom they tell, and how often.
+#![tactic(auto)]
+
+mod laws;
+
+pub use laws::destructions_stay_right;
