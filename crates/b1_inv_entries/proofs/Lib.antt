@@ -11,3 +11,6 @@ pub mod PendingKept
 pub mod Receipts
 pub mod Origins
 pub mod Behind
+pub mod Removed
+pub mod GoneKept
+pub mod Beginnings
