@@ -14,3 +14,7 @@ pub mod Behind
 pub mod Removed
 pub mod GoneKept
 pub mod Beginnings
+pub mod Calls
+pub mod NodeEpochs
+pub mod EpochsStay
+pub mod AboveTaken

@@ -5,7 +5,7 @@ ghost use Rattle.b1_model.specs.Opening.{IsOpening};
 ghost use Rattle.b1_model.specs.MachineParts.{State};
 ghost use Rattle.b1_model.specs.MachineStep.{Step, opening_state};
 ghost use Rattle.b1_inv.specs.Sound.{IsSound};
-ghost use Rattle.b1_inv_record.specs.Entries.{GoneBelowQueue, NoticesBelowStamp, PendingIsStaged, QueuedIsPresent};
+ghost use Rattle.b1_inv_record.specs.Entries.{GoneBelowQueue, NoticesBelowStamp, PendingAboveTaken, PendingIsStaged, QueuedIsPresent};
 ghost use Rattle.b1_inv_record.specs.Right.{IsRight};
 
 /// A step keeps own notices that are still staged below the stamp of their destruction, and every bus begins so.
@@ -31,4 +31,11 @@ pub fn waiting_places_stay_staged()
 pub fn what_has_left_stays_behind()
     ensures opening_GoneBelowQueue { (o : Opening) → IsOpening o → GoneBelowQueue o (opening_state o) }
     ensures kept_GoneBelowQueue { (o : Opening) (s : State) (p : ℕ) (c : Option Command) (t : State) → IsSound o s → IsRight o s → Step o s p c t → GoneBelowQueue o t }
+{}
+
+/// A step leaves what a peer took in a node's epoch at most at the clock that a SEND has collected that still waits
+/// there, and every bus begins so.
+pub fn waiting_places_stay_above()
+    ensures opening_PendingAboveTaken { (o : Opening) → IsOpening o → PendingAboveTaken o (opening_state o) }
+    ensures kept_PendingAboveTaken { (o : Opening) (s : State) (p : ℕ) (c : Option Command) (t : State) → IsSound o s → IsRight o s → Step o s p c t → PendingAboveTaken o t }
 {}
