@@ -18,3 +18,4 @@ pub mod Calls
 pub mod NodeEpochs
 pub mod EpochsStay
 pub mod AboveTaken
+pub mod Named
