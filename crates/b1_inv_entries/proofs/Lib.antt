@@ -19,3 +19,4 @@ pub mod NodeEpochs
 pub mod EpochsStay
 pub mod AboveTaken
 pub mod Named
+pub mod SentNames
