@@ -20,3 +20,4 @@ pub mod EpochsStay
 pub mod AboveTaken
 pub mod Named
 pub mod SentNames
+pub mod CalledKept

@@ -5,7 +5,7 @@ ghost use Rattle.b1_model.specs.Opening.{IsOpening};
 ghost use Rattle.b1_model.specs.MachineParts.{State};
 ghost use Rattle.b1_model.specs.MachineStep.{Step, opening_state};
 ghost use Rattle.b1_inv.specs.Sound.{IsSound};
-ghost use Rattle.b1_inv_record.specs.Entries.{GoneBelowQueue, NoticesBelowStamp, PendingAboveTaken, PendingIsStaged, QueuedIsPresent};
+ghost use Rattle.b1_inv_record.specs.Entries.{CommittedHasCall, GoneBelowQueue, NoticesBelowStamp, PendingAboveTaken, PendingIsStaged, QueuedIsPresent};
 ghost use Rattle.b1_inv_record.specs.Right.{IsRight};
 
 /// A step keeps own notices that are still staged below the stamp of their destruction, and every bus begins so.
@@ -38,4 +38,10 @@ pub fn what_has_left_stays_behind()
 pub fn waiting_places_stay_above()
     ensures opening_PendingAboveTaken { (o : Opening) → IsOpening o → PendingAboveTaken o (opening_state o) }
     ensures kept_PendingAboveTaken { (o : Opening) (s : State) (p : ℕ) (c : Option Command) (t : State) → IsSound o s → IsRight o s → Step o s p c t → PendingAboveTaken o t }
+{}
+
+/// A step leaves every committed message an entry of a stamped send of the record, and every bus begins so.
+pub fn committed_messages_stay_called()
+    ensures opening_CommittedHasCall { (o : Opening) → IsOpening o → CommittedHasCall o (opening_state o) }
+    ensures kept_CommittedHasCall { (o : Opening) (s : State) (p : ℕ) (c : Option Command) (t : State) → IsSound o s → IsRight o s → Step o s p c t → CommittedHasCall o t }
 {}
