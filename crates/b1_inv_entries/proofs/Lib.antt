@@ -11,3 +11,13 @@ pub mod PendingKept
 pub mod Receipts
 pub mod Origins
 pub mod Behind
+pub mod Removed
+pub mod GoneKept
+pub mod Beginnings
+pub mod Calls
+pub mod NodeEpochs
+pub mod EpochsStay
+pub mod AboveTaken
+pub mod Named
+pub mod SentNames
+pub mod CalledKept

@@ -156,7 +156,7 @@ module _ (o : Opening) (memory : Bool) (d : DriverPart) (command : Command) (x :
   )
 
   -- an event that stages a place's message does so at the place's node
-  placed_there : (phase : Phase) (owed : List OwedDrop) (after : Begun) → x.clock % 2 ≡ 0 → Placed phase (answered o memory d command phase owed x).0 at after
+  pub placed_there : (phase : Phase) (owed : List OwedDrop) (after : Begun) → x.clock % 2 ≡ 0 → Placed phase (answered o memory d command phase owed x).0 at after
       → IsThere (answered o memory d command phase owed x).1 × (peer_of d.me (next_action (opened d command phase owed)) ≡ (node_of_place after.to at).owner)
   placed_there (Staging begun places collected) [] after even placed =
       let k = at_stage (stage_refusal x (user_of o d.me) (node_of_place begun.to (length places)).serial (length (send_of command).payload) (length begun.with)) memory begun places collected (user_of o d.me) (node_of_place begun.to (length places)).serial (send_of command).payload begun.with after even placed in
