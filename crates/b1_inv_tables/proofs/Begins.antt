@@ -1,25 +1,24 @@
 -- Every bus begins with the lines of each peer's table its numbered records: the wires are laid one after another.
-use Rattle.std.proofs.Common.{◌≡◌, ◌≢◌, refl, sym, ap, subst, ◌∙◌, inl, inr, ℕ, zero, suc, ◌+◌, ◌<◌, ◌==◌, Bool, true, false, cond, ◌&&◌, not, List, [], ◌∷◌, ◌++◌, fold, get_or, length, map, filter, Option, Some, None, option_map, append-nil}
+use Rattle.std.proofs.Common.{◌≡◌, refl, sym, ap, subst, ◌∙◌, ℕ, zero, suc, ◌+◌, ◌==◌, Bool, true, false, cond, ◌&&◌, not, List, [], ◌∷◌, ◌++◌, fold, get_or, length, take, map, filter, Option, Some, None, option_map, append-nil}
 use Rattle.std.specs.Prelude.{slice_get}
 use Rattle.std.proofs.lemmas.Bool.{eq-eqb}
 use Rattle.std.proofs.lemmas.List.{append_assoc}
-use Rattle.std.proofs.lemmas.Option.{same_Some, get_or_from_slice_get}
+use Rattle.std.proofs.lemmas.Option.{same_Some, slice_get_within, get_or_from_slice_get}
 use native.Mathlib.Omega.{arith}
 use Rattle.b1_model.specs.declared.naming.NodeRef.{NodeRef}
 use Rattle.b1_model.specs.declared.naming.PeerSpec.{PeerSpec}
 use Rattle.b1_model.specs.declared.naming.Wire.{Wire}
 use Rattle.b1_model.specs.declared.naming.Opening.{Opening}
-use Rattle.b1_model.specs.Names.{Node, Name, is_own, wired as wired_names}
-use Rattle.b1_model.specs.Ledger.{Table, handed, named, wire_tables, start, table}
+use Rattle.b1_model.specs.Names.{Node, is_own, calls_of, wired as wired_names}
+use Rattle.b1_model.specs.Ledger.{Table, handed, named, wire_tables, start, table, table_in, slots}
 use Rattle.b1_model.specs.Opening.{after_wire, CanWire, AreWired, IsOpening}
-use Rattle.b1_model.specs.MachineParts.{PeerPart, DriverPart, HandleRecord, State, record_or_none}
+use Rattle.b1_model.specs.MachineParts.{PeerPart, DriverPart, record_or_none}
 use Rattle.b1_model.specs.MachineTables.{serial_of, with_made, changed_or_made, more_held, next_number, node_named}
 use Rattle.b1_model.specs.MachineStep.{no_peer, with_part, wire_made, wire_counted, wire_held, wired, peer_before, peers_before, opening_state, record_of_state}
 use Rattle.b1_model.specs.MachineTook.{driver_calls}
-use Rattle.b1_step.specs.Rights.{Has}
 use Rattle.b1_inv.specs.Words.{IsPeer, IsDriver}
 use Rattle.b1_ledger.specs.Growth.{calls_len}
-use Rattle.b1_inv_record.specs.Epochs.{ref_of, in_gap}
+use Rattle.b1_inv_record.specs.Epochs.{ref_of}
 use Rattle.b1_inv_record.specs.Names.{TableIsLines}
 use Rattle.b1_inv_tools.proofs.Openings.{opening_idle}
 use Rattle.b1_inv_refs.proofs.Places.{made_serial, part_there}
@@ -27,8 +26,11 @@ use Rattle.b1_inv_refs.proofs.Wiring.{Peers, Wiring, read_part}
 use Rattle.b1_inv_refs.proofs.Laying.{wire_kept, before_wiring}
 use Rattle.b1_inv_names.proofs.Numbers.{joined, all_joined, has_number, name_numbers, new_names}
 use Rattle.b1_inv_names.proofs.Made.{numbers_of}
-use Rattle.b1_inv_names.proofs.MadeFirst.{numbers_at, joins_at, numbers_from, made_at, wired_at, none_before, made_part}
+use Rattle.b1_inv_names.proofs.MadeFirst.{joins_at, numbers_from, wired_at, made_part}
+use Rattle.b1_inv_names.proofs.Gaps.{gaps_begin}
 use Rattle.b1_inv_names.proofs.Recorded.{recorded_calls}
+use Rattle.b1_inv_notices.proofs.Turns.{get_there}
+use Rattle.b1_step.proofs.Numbers.{opening_numbered}
 use Rattle.b1_inv_tables.proofs.Agrees.{IsTable}
 use Rattle.b1_inv_tables.proofs.Given.{given_table}
 use Rattle.b1_inv_tables.proofs.Named.{named_is}
@@ -213,3 +215,24 @@ tables_first o valid =
     tables_end o.wires (length o.peers) o.wires [] (peers_before o 0 o.peers) (λ q. record { lines = []; given = 0 }) (before_wiring o) valid.wires
     (λ q x is. ap (λ ns. all_joined ns (numbers_from q o.wires)) (ap (map (λ n. n.number)) (first_part o 0 o.peers q x is).2) ∙ sym (new_names 0 [] (numbers_from q o.wires)))
     (λ q x is. let f = first_part o 0 o.peers q x is in subst (λ g. IsTable (record { lines = []; given = 0 }) g x.handles) (sym f.0) (subst (λ hs. IsTable (record { lines = []; given = 0 }) 0 hs) (sym f.1) no_table))
+
+-- ---- the opening state
+
+no_calls : (o : Opening) (q : ℕ) (d : DriverPart) (x : PeerPart) → IsDriver (opening_state o) q d → IsPeer (opening_state o) q x → table o.wires (record_of_state (opening_state o)) q (calls_len (record_of_state (opening_state o)) q) ≡ start o.wires q
+no_calls o q d x is_driver is_peer =
+    let none : calls_of (record_of_state (opening_state o)) q ≡ [] = recorded_calls (opening_state o) q x d is_peer is_driver ∙ ap driver_calls (opening_idle o q d is_driver) in
+    ap (λ calls. table_in (slots o.wires (record_of_state (opening_state o)) q) (start o.wires q) (take (length calls) calls)) none
+
+pub lines_begin : (o : Opening) → IsOpening o → TableIsLines o (opening_state o)
+lines_begin o valid = record {
+  given = λ q x is_peer. let d = driver_of q x is_peer in (agrees q d.0 x d.1 is_peer).given;
+  gap = gaps_begin o;
+  lines = λ q d x l is_driver is_peer none there. (agrees q d x is_driver is_peer).lines l there;
+  records = λ q number d x h is_driver is_peer none there is. (agrees q d x is_driver is_peer).records h number there is;
+}
+  where
+    driver_of : (q : ℕ) (x : PeerPart) → IsPeer (opening_state o) q x → (d : DriverPart) × IsDriver (opening_state o) q d
+    driver_of q x is = let k = opening_numbered o in get_there (opening_state o).drivers q (let within = slice_get_within (opening_state o).peers q x is in omega (arith, within, k.as_many_drivers, k.as_many_peers))
+
+    agrees : (q : ℕ) (d : DriverPart) (x : PeerPart) → IsDriver (opening_state o) q d → IsPeer (opening_state o) q x → IsTable (table o.wires (record_of_state (opening_state o)) q (calls_len (record_of_state (opening_state o)) q)) x.given x.handles
+    agrees q d x is_driver is_peer = subst (λ t. IsTable t x.given x.handles) (sym (no_calls o q d x is_driver is_peer)) (tables_first o valid q x is_peer)

@@ -1,22 +1,19 @@
 -- What a number names by a peer's names and table is what it names at the peer's part.
-use Rattle.std.proofs.Common.{◌≡◌, refl, sym, ap, subst, ◌∙◌, inl, inr, ℕ, zero, suc, ◌+◌, ◌<◌, ◌==◌, Bool, true, false, cond, not, List, [], ◌∷◌, ◌++◌, length, map, find, Option, Some, None, option_map}
+use Rattle.std.proofs.Common.{◌≡◌, refl, sym, ap, ◌∙◌, inl, inr, ℕ, suc, ◌+◌, ◌<◌, ◌==◌, Bool, true, false, cond, not, List, [], ◌∷◌, ◌++◌, length, find, Option, Some, None, option_map}
 use Rattle.std.specs.List.{position_or_len}
 use Rattle.std.proofs.lemmas.Bool.{eqb-true, eq-eqb, eqb-false, ne_eqb}
 use native.Mathlib.Omega.{arith}
-use Rattle.b1_model.specs.declared.naming.NodeRef.{NodeRef}
-use Rattle.b1_model.specs.Names.{Name, Node, is_own, node_from, own_node}
+use Rattle.b1_model.specs.Names.{Name, is_own, node_from, own_node}
 use Rattle.b1_model.specs.Ledger.{Line, Table, line_node, named}
 use Rattle.b1_model.specs.MachineParts.{PeerPart, NodePart, HandleRecord}
 use Rattle.b1_model.specs.MachineTables.{serial_of, is_number, held_node, node_named}
 use Rattle.b1_step.specs.Rights.{Has}
-use Rattle.b1_step.specs.Ordered.{Rising}
-use Rattle.b1_inv.specs.Numbers.{AreNumbered}
 use Rattle.b1_inv_record.specs.Epochs.{ref_of}
 use Rattle.b1_inv_refs.proofs.Views.{Handles}
 use Rattle.b1_inv_refs.proofs.GivenUp.{found_has, found_none, number_is}
 use Rattle.b1_inv_refs.proofs.Places.{found_at}
 use Rattle.b1_inv_names.proofs.Numbers.{name_numbers, node_numbers}
-use Rattle.b1_inv_tables.proofs.Lines.{Lines, AreApart, one_line, ref_is}
+use Rattle.b1_inv_tables.proofs.Lines.{Lines, AreApart, ref_is}
 use Rattle.b1_inv_tables.proofs.Agrees.{IsTable}
 
 -- ---- given numbers
