@@ -1,0 +1,21 @@
+ghost use Rattle.std.specs.Prelude.{ℕ, Option};
+ghost use Rattle.b1_model.specs.declared.naming.Opening.{Opening};
+ghost use Rattle.b1_model.specs.declared.commands.Command.{Command};
+ghost use Rattle.b1_model.specs.Legal.{Legal};
+ghost use Rattle.b1_model.specs.Opening.{IsOpening};
+ghost use Rattle.b1_model.specs.MachineParts.{State};
+ghost use Rattle.b1_model.specs.MachineStep.{Step, opening_state, record_of_state};
+ghost use Rattle.b1_inv.specs.Sound.{IsSound};
+ghost use Rattle.b1_inv_record.specs.Right.{IsRight};
+ghost use Rattle.b1_inv_legal.specs.Fronts.{FrontIsNext, FrontIsSent};
+
+/// A step keeps the record legal, where whatever a peer takes next is its next entry by the record, and has what was
+/// sent; and every bus begins with a legal record.
+pub fn records_stay_legal()
+    ensures opening_Legal { (o : Opening) → IsOpening o
+        → Legal o (record_of_state (opening_state o)) }
+    ensures kept_Legal { (o : Opening) (s : State) (p : ℕ) (c : Option Command) (t : State) → IsSound o s → IsRight o s
+        → FrontIsNext o s
+        → FrontIsSent o s
+        → Step o s p c t → Legal o (record_of_state t) }
+{}
