@@ -1,2 +1,4 @@
 pub mod Holds
 pub mod HoldEvents
+pub mod Owes
+pub mod Travelling
