@@ -1,18 +1,15 @@
 -- A node that a part holds, over an event: it still holds it, or is to give references up, or releases it; and likewise for what is to be given up.
-use Rattle.std.proofs.Common.{◌≡◌, ◌⊎◌, refl, sym, ap, subst, ◌∙◌, inl, inr, ℕ, zero, suc, ◌+◌, ◌≤◌, Bool, true, false, cond, List, [], ◌∷◌, ◌++◌, drop, Option, Some, None, Ok, Err, Result}
+use Rattle.std.proofs.Common.{◌≡◌, ◌⊎◌, refl, ap, subst, ◌∙◌, inl, inr, ℕ, zero, suc, ◌+◌, ◌≤◌, Bool, true, false, List, [], ◌∷◌, drop, Option, Some, None, Ok}
 use native.Mathlib.Omega.{arith}
-use Rattle.std.proofs.lemmas.List.Sums.{sum_by-cons}
 use Rattle.b1_model.specs.declared.naming.NodeRef.{NodeRef}
 use Rattle.b1_model.specs.declared.naming.Opening.{Opening}
-use Rattle.b1_model.specs.declared.answers.Reason.{Reason}
-use Rattle.b1_model.specs.declared.parts.Owed.{Owed}
 use Rattle.b1_model.specs.declared.events.Action.{Action}
 use Rattle.b1_model.specs.declared.events.Action.TheVariants as act
 use Rattle.b1_model.specs.declared.events.Doing.{Doing}
 use Rattle.b1_model.specs.Names.{is_given}
-use Rattle.b1_model.specs.MachineParts.{PeerPart, DriverPart, HandleRecord, same_ref, record_of, record_or_none}
+use Rattle.b1_model.specs.MachineParts.{PeerPart, DriverPart, HandleRecord, same_ref, record_of}
 use Rattle.b1_model.specs.MachineTables.{changed, less_held, held_node}
-use Rattle.b1_model.specs.MachineReceive.{received_part, released, released_by, given_up}
+use Rattle.b1_model.specs.MachineReceive.{released, released_by, given_up}
 use Rattle.b1_model.specs.MachineDestroy.{queued_items, held_items}
 use Rattle.b1_model.specs.MachineCounts.{amount_in, dead_amount}
 use Rattle.b1_model.specs.MachineEvents.{happens, number_of}
@@ -22,13 +19,13 @@ use Rattle.b1_step.proofs.Changed.{changes}
 use Rattle.b1_step.proofs.Orders.{same_ref_is}
 use Rattle.b1_step.proofs.Rises.{rises}
 use Rattle.b1_inv.specs.Numbers.{AreNumbered}
-use Rattle.b1_inv_refs.proofs.Amounts.{Refs, dead_append, dead_cons, refs_cons}
+use Rattle.b1_inv_refs.proofs.Amounts.{Refs, dead_append, dead_cons}
 use Rattle.b1_inv_refs.proofs.Views.{Handles, or_none, view_other}
 use Rattle.b1_inv_refs.proofs.Arrivals.{held_in}
 use Rattle.b1_inv_refs.proofs.GivenUp.{found_has, held_of, queued_amount, held_items_amount}
 use Rattle.b1_inv_tables.proofs.Agrees.{LinesKept}
 use Rattle.b1_inv_tables.proofs.Deeds.{is_plain}
-use Rattle.b1_inv_tables.proofs.Plain.{SameTable, plain_event}
+use Rattle.b1_inv_tables.proofs.Plain.{plain_event}
 use Rattle.b1_inv_seen.proofs.Holds.{recv_holds, recv_dead}
 
 -- the record of a node that is held

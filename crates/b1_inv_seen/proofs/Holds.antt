@@ -1,40 +1,23 @@
 -- How long a part holds a node, or has references to it to be given up, over an event.
-use Rattle.std.proofs.Common.{◌≡◌, ◌⊎◌, refl, sym, ap, subst, ◌∙◌, inl, inr, ℕ, suc, ◌+◌, ◌-◌, ◌≤◌, ◌==◌, nat_lt, Bool, true, false, cond, List, [], ◌∷◌, ◌++◌, drop, fold, zip, length, sum_by, find, Option, Some, None, Ok, Err, Result}
+use Rattle.std.proofs.Common.{◌≡◌, refl, sym, ap, subst, ◌≤◌, Bool, true, false, cond, List, [], ◌∷◌, drop, fold, zip, length, Option, Some, None}
 use native.Mathlib.Omega.{arith}
-use Rattle.std.proofs.lemmas.List.Sums.{sum_by-cons, sum_by-append}
 use Rattle.b1_model.specs.declared.naming.Key.{Key}
 use Rattle.b1_model.specs.declared.naming.NodeRef.{NodeRef}
-use Rattle.b1_model.specs.declared.naming.Opening.{Opening}
-use Rattle.b1_model.specs.declared.answers.Reason.{Reason}
-use Rattle.b1_model.specs.declared.parts.Owed.{Owed}
 use Rattle.b1_model.specs.declared.parts.Slot.{Slot}
 use Rattle.b1_model.specs.declared.parts.Slot.TheVariants as slot
 use Rattle.b1_model.specs.declared.entries.Entry.{Entry}
 use Rattle.b1_model.specs.declared.entries.Entry.TheVariants.{Message, OwnNotice, ForeignNotice, ReleaseNotice}
-use Rattle.b1_model.specs.declared.events.Action.{Action}
-use Rattle.b1_model.specs.declared.events.Action.TheVariants as act
-use Rattle.b1_model.specs.declared.events.Doing.{Doing}
-use Rattle.b1_model.specs.Names.{is_given}
-use Rattle.b1_model.specs.MachineParts.{PeerPart, DriverPart, HandleRecord, is_staged, same_ref, record_of, record_or_none}
-use Rattle.b1_model.specs.MachineTables.{is_needed, changed, less_flight, less_held, more_held, made_dead, next_number, foreign, unexpected, held_node}
+use Rattle.b1_model.specs.MachineParts.{PeerPart, HandleRecord, is_staged, same_ref, record_of, record_or_none}
+use Rattle.b1_model.specs.MachineTables.{is_needed, changed, less_flight, more_held, made_dead, next_number, foreign}
 use Rattle.b1_model.specs.MachinePool.{published}
-use Rattle.b1_model.specs.MachineReceive.{Arriving, discards, discarded, cleared, references, reference_by, slot_arrives, taken_entry, front_by, front_taken, received_part, released, released_by, given_up}
-use Rattle.b1_model.specs.MachineDestroy.{queued_items, held_items}
-use Rattle.b1_model.specs.MachineCounts.{amount_in, dead_amount}
-use Rattle.b1_model.specs.MachineEvents.{happens, number_of}
-use Rattle.b1_step.specs.Rights.{Has}
+use Rattle.b1_model.specs.MachineReceive.{Arriving, discards, cleared, reference_by, slot_arrives, taken_entry, front_by, front_taken, received_part}
+use Rattle.b1_model.specs.MachineCounts.{dead_amount}
 use Rattle.b1_step.specs.Ordered.{Rising}
-use Rattle.b1_step.proofs.Changed.{changes}
-use Rattle.b1_step.proofs.Lookups.{kept_by, own_changed, rising_changed}
+use Rattle.b1_step.proofs.Lookups.{kept_by, own_changed}
 use Rattle.b1_step.proofs.Orders.{same_ref_is}
-use Rattle.b1_inv.specs.Numbers.{AreNumbered}
-use Rattle.b1_inv_refs.proofs.Amounts.{Items, Refs, dead_append, dead_with_item}
+use Rattle.b1_inv_refs.proofs.Amounts.{Items, dead_with_item}
 use Rattle.b1_inv_refs.proofs.Views.{Handles, or_none, view_other, unneeded_held, held_unexpected}
-use Rattle.b1_inv_refs.proofs.Arrivals.{held_in, slots_rest, slot_rising, Cleared, is_cleared, all_removed}
-use Rattle.b1_inv_refs.proofs.GivenUp.{record_found, held_of, queued_amount, held_items_amount}
-use Rattle.b1_inv_tables.proofs.Agrees.{LinesKept}
-use Rattle.b1_inv_tables.proofs.Deeds.{is_plain}
-use Rattle.b1_inv_tables.proofs.Plain.{plain_event}
+use Rattle.b1_inv_refs.proofs.Arrivals.{held_in, slots_rest, slot_rising, is_cleared, all_removed}
 
 -- ---- records
 

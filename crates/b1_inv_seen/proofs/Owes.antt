@@ -1,18 +1,14 @@
 -- What a driver owes behind a step: what it owed, but for the drop that it has just made; or what its peer released or reaped.
-use Rattle.std.proofs.Common.{◌≡◌, ◌⊎◌, refl, sym, ap, subst, ◌∙◌, inl, inr, ℕ, ◌+◌, ◌≤◌, max, Bool, true, false, cond, List, [], ◌∷◌, ◌++◌, drop, Option, Some, None, Ok, Err, Result}
+use Rattle.std.proofs.Common.{◌≡◌, ◌⊎◌, refl, sym, ap, subst, ◌∙◌, inl, inr, ℕ, ◌≤◌, Bool, true, false, cond, List, [], ◌∷◌, drop, Option, Some, None, Ok}
 use native.Mathlib.Omega.{arith}
 use Rattle.b1_model.specs.declared.commands.Command.{Command}
 use Rattle.b1_model.specs.declared.naming.NodeRef.{NodeRef}
 use Rattle.b1_model.specs.declared.naming.Opening.{Opening}
-use Rattle.b1_model.specs.declared.answers.Reason.{Reason}
-use Rattle.b1_model.specs.declared.parts.Dead.{Dead}
-use Rattle.b1_model.specs.declared.parts.Owed.{Owed}
 use Rattle.b1_model.specs.declared.events.Action.{Action}
 use Rattle.b1_model.specs.declared.events.Action.TheVariants as act
 use Rattle.b1_model.specs.declared.events.OwedDrop.{OwedDrop}
-use Rattle.b1_model.specs.declared.events.Outcome.{Outcome}
 use Rattle.b1_model.specs.declared.events.Outcome.TheVariants as out
-use Rattle.b1_model.specs.MachineParts.{PeerPart, DriverPart, State, same_ref}
+use Rattle.b1_model.specs.MachineParts.{State, same_ref}
 use Rattle.b1_model.specs.MachineReceive.{reaped, has_dead, reaped_part, released, is_released, dropped_refs}
 use Rattle.b1_model.specs.MachineCounts.{amount_in}
 use Rattle.b1_model.specs.MachineDriver.{next_action, peer_of, turn}

@@ -1,8 +1,7 @@
 -- What a peer took comes to the owner of a node that it held: what a step leaves of that.
-use Rattle.std.proofs.Common.{◌≡◌, ◌≢◌, ◌⊎◌, refl, sym, ap, subst, ◌∙◌, inl, inr, ℕ, suc, ◌+◌, ◌≤◌, ◌<◌, Bool, true, false, List, [], ◌∷◌, length, map, Option, Some, None}
+use Rattle.std.proofs.Common.{◌≡◌, refl, sym, ap, subst, ◌∙◌, inl, inr, ℕ, ◌≤◌, true, Option}
 use Rattle.std.specs.Prelude.{slice_get}
-use Rattle.std.proofs.lemmas.List.{length-map}
-use Rattle.std.proofs.lemmas.Option.{same_Some, slice_get_within}
+use Rattle.std.proofs.lemmas.Option.{same_Some}
 use native.Mathlib.Omega.{arith}
 use Rattle.b1_model.specs.declared.commands.Command.{Command}
 use Rattle.b1_model.specs.declared.naming.NodeRef.{NodeRef}
@@ -10,7 +9,7 @@ use Rattle.b1_model.specs.declared.naming.Opening.{Opening}
 use Rattle.b1_model.specs.declared.events.Action.{Action}
 use Rattle.b1_model.specs.declared.events.Action.TheVariants as act
 use Rattle.b1_model.specs.declared.events.OwedDrop.{OwedDrop}
-use Rattle.b1_model.specs.MachineParts.{PeerPart, DriverPart, State, same_ref, record_or_none}
+use Rattle.b1_model.specs.MachineParts.{PeerPart, DriverPart, State, same_ref}
 use Rattle.b1_model.specs.MachineCounts.{dead_amount}
 use Rattle.b1_model.specs.MachineDriver.{peer_of}
 use Rattle.b1_model.specs.MachineEvents.{happens}
