@@ -1,0 +1,7 @@
+pub mod Holds
+pub mod HoldEvents
+pub mod Owes
+pub mod Travelling
+pub mod Lined
+pub mod SeenKept
+pub mod SeenBegins

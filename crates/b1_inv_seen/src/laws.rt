@@ -1,0 +1,17 @@
+ghost use Rattle.std.specs.Prelude.{Option, ℕ};
+ghost use Rattle.b1_model.specs.declared.commands.Command.{Command};
+ghost use Rattle.b1_model.specs.declared.naming.Opening.{Opening};
+ghost use Rattle.b1_model.specs.MachineParts.{State};
+ghost use Rattle.b1_model.specs.MachineStep.{Step, opening_state};
+ghost use Rattle.b1_model.specs.Opening.{IsOpening};
+ghost use Rattle.b1_inv.specs.Sound.{IsSound};
+ghost use Rattle.b1_inv_record.specs.Holders.{SeenTravels};
+ghost use Rattle.b1_inv_record.specs.Right.{IsRight};
+
+/// What a peer took while a node stood in its table is at most the clock of the node's owner, or the peer still holds the
+/// node, or is to give references to it up, or its driver owes a drop with a clock as high: a step keeps it so for every
+/// node that isn't destroyed, and every bus begins so.
+pub fn what_holders_took_travels()
+    ensures opening_SeenTravels { (o : Opening) → IsOpening o → SeenTravels o (opening_state o) }
+    ensures kept_SeenTravels { (o : Opening) (s : State) (p : ℕ) (c : Option Command) (t : State) → IsSound o s → IsRight o s → Step o s p c t → SeenTravels o t }
+{}

@@ -1,0 +1,6 @@
+//! What peers took while they held a node comes to the node's owner, over every list of steps.
+#![tactic(auto)]
+
+mod laws;
+
+pub use laws::what_holders_took_travels;
