@@ -144,7 +144,7 @@ slot_nodes a node slot.Attached = reference_nodes (record_or_none node a.part.ha
 slot_nodes a node slot.Own = refl
 slot_nodes a node slot.Void = refl
 
-slots_nodes : (ss : List (NodeRef × Slot)) (a : Arriving) → (fold slot_arrives a ss).part.nodes ≡ a.part.nodes
+pub slots_nodes : (ss : List (NodeRef × Slot)) (a : Arriving) → (fold slot_arrives a ss).part.nodes ≡ a.part.nodes
 slots_nodes [] a = refl
 slots_nodes ((node, s) ∷ rest) a = slots_nodes rest (slot_arrives a (node, s)) ∙ slot_nodes a node s
 

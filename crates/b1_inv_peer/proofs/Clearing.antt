@@ -105,7 +105,7 @@ module _ (x : PeerPart) (f : Key × Entry) (rest : Queue) (up : Rising x.handles
     queue_again y (ForeignNotice node index) q r = refl
     queue_again y (ReleaseNotice serial) q r = refl
 
-    queue_is : (without_front x f rest).queue ≡ rest
+    pub queue_is : (without_front x f rest).queue ≡ rest
     queue_is = ap (λ y. y.queue) (queue_discarded x f.1 rest)
 
     start : discarded (record x { queue = drop (length kept) rest }) f.1 ≡ record (without_front x f rest) { queue = drop (length kept) (without_front x f rest).queue }

@@ -1,0 +1,15 @@
+pub mod Named
+pub mod Turned
+pub mod Flushing
+pub mod Doomed
+pub mod DoomedKept
+pub mod Indices
+pub mod Refs
+pub mod CalmCalls
+pub mod Records
+pub mod Lives
+pub mod Placed
+pub mod Stamped
+pub mod Dying
+pub mod DyingStamped
+pub mod DyingKept

@@ -1,0 +1,13 @@
+pub mod Answers
+pub mod NewCalls
+pub mod SameRecord
+pub mod BelowStamp
+pub mod Sources
+pub mod Present
+pub mod Keeping
+pub mod Pending
+pub mod FirstNow
+pub mod PendingKept
+pub mod Receipts
+pub mod Origins
+pub mod Behind
