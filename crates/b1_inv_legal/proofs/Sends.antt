@@ -48,7 +48,7 @@ pub epoch_end : (r : Record) (p : ℕ) → epoch_at r p (calls_len r p) ≡ epoc
 epoch_end r p = ap (epoch_in 0) (take-end (calls_of r p))
 
 -- two lists of which each item's images are the same, at one place
-same_image : {A C : Type 0} (f : A → Option C) (xs : List A) (ys : List C) (i : ℕ) (a : A) → map f xs ≡ map Some ys → slice_get xs i ≡ Some a → (c : C) × (f a ≡ Some c) × (slice_get ys i ≡ Some c)
+pub same_image : {A C : Type 0} (f : A → Option C) (xs : List A) (ys : List C) (i : ℕ) (a : A) → map f xs ≡ map Some ys → slice_get xs i ≡ Some a → (c : C) × (f a ≡ Some c) × (slice_get ys i ≡ Some c)
 same_image {C = C} f xs ys i a same at = by (slice_get ys i) refl (sym (slice_get-map f xs i ∙ ap (option_map f) at) ∙ ap (λ l. slice_get l i) same ∙ slice_get-map Some ys i)
   where
     by : (r : Option C) → slice_get ys i ≡ r → Some (f a) ≡ option_map Some (slice_get ys i) → (c : C) × (f a ≡ Some c) × (slice_get ys i ≡ Some c)
@@ -56,7 +56,7 @@ same_image {C = C} f xs ys i a same at = by (slice_get ys i) refl (sym (slice_ge
     by (Some c) is e = (c, same_Some (f a) (Some c) (e ∙ ap (option_map Some) is), is)
 
 -- the call that a number comes from
-number_of_node : {A B : Type 0} (f : A → Option B) (xs : List A) (i : ℕ) (b : B) → option_flatten (slice_get (map f xs) i) ≡ Some b → (a : A) × (slice_get xs i ≡ Some a) × (f a ≡ Some b)
+pub number_of_node : {A B : Type 0} (f : A → Option B) (xs : List A) (i : ℕ) (b : B) → option_flatten (slice_get (map f xs) i) ≡ Some b → (a : A) × (slice_get xs i ≡ Some a) × (f a ≡ Some b)
 number_of_node {A = A} f xs i b is = by (slice_get xs i) refl (sym (slice_get-map f xs i) ∙ flat_some (slice_get (map f xs) i) b is)
   where
     by : (r : Option A) → slice_get xs i ≡ r → option_map f (slice_get xs i) ≡ Some (Some b) → (a : A) × (slice_get xs i ≡ Some a) × (f a ≡ Some b)
