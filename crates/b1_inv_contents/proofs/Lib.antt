@@ -1,2 +1,4 @@
 pub mod Removed
 pub mod Order
+pub mod Lateness
+pub mod Judged
