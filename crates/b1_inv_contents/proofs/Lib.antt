@@ -2,3 +2,4 @@ pub mod Removed
 pub mod Order
 pub mod Lateness
 pub mod Judged
+pub mod References
