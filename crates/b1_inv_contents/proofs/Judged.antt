@@ -178,8 +178,7 @@ module _ {o : Opening} {s : State} (sound : IsSound o s) (right : IsRight o s) {
 
       pub own_judged : (late y ≡ (get_or (cleared x).nodes y.serial no_node).taken) × (late y ≡ false → number_at known y.serial ≡ Some (get_or (cleared x).nodes y.serial no_node).number)
       own_judged =
-          let same : n ≡ get_or (cleared x).nodes y.serial no_node = sym (ap (λ ns. get_or ns y.serial no_node) (is_cleared x (sound.rising p x can.is_peer)).nodes ∙ get_or_from_slice_get x.nodes y.serial n no_node at_own) in
-          (
+          let same : n ≡ get_or (cleared x).nodes y.serial no_node = sym (ap (λ ns. get_or ns y.serial no_node) (is_cleared x (sound.rising p x can.is_peer)).nodes ∙ get_or_from_slice_get x.nodes y.serial n no_node at_own) in (
             either_is (late y) n.taken taken_late untaken_soon ∙ ap (λ z. z.taken) same,
             λ soon. own_number sound right can y.serial (slice_get_within x.nodes y.serial n at_own) ∙ ap (λ z. Some z.number) (get_or_from_slice_get x.nodes y.serial n no_node at_own ∙ same),
           )

@@ -3,3 +3,4 @@ pub mod Order
 pub mod Lateness
 pub mod Judged
 pub mod References
+pub mod Arrive
