@@ -28,7 +28,7 @@ use Rattle.b1_model.specs.Names.{calls_of}
 use Rattle.b1_model.specs.Ledger.{stamp_of, is_below, is_before}
 use Rattle.b1_model.specs.Legal.{is_candidate, HasNoNext, Whole}
 use Rattle.b1_model.specs.MachineParts.{PeerPart, DriverPart, State, is_staged, record_of}
-use Rattle.b1_model.specs.MachineReceive.{cleared, front_by, front_taken, received, received_part}
+use Rattle.b1_model.specs.MachineReceive.{cleared, taken_entry, front_by, front_taken, received, received_part}
 use Rattle.b1_model.specs.MachineDriver.{refused_at, peer_of}
 use Rattle.b1_model.specs.MachineTook.{as_call}
 use Rattle.b1_model.specs.MachineEvents.{happens}
@@ -46,6 +46,7 @@ use Rattle.b1_ledger.proofs.NextAfter.{below_is_less, may_plain}
 use Rattle.b1_ledger.proofs.Sequences.{and_of, or_left}
 use Rattle.b1_inv_record.specs.Right.{IsRight}
 use Rattle.b1_inv_notices.proofs.Turns.{get_there, parts, going, going_doing, going_action, going_answer}
+use Rattle.b1_inv_tools.proofs.Received.{at_taken}
 use Rattle.b1_inv_tools.proofs.Leaves.{new_peer, same_driver}
 use Rattle.b1_inv_entries.proofs.Answers.{Fixes}
 use Rattle.b1_inv_entries.proofs.NewCalls.{NewCall, new_call, SameCalls, as_many_records, records_length}
@@ -221,12 +222,39 @@ module _ {o : Opening} {s : State} {p : ℕ} {c : Option Command} {t : State} (s
       by (f ∷ rest) front_is shown found again = at_front (is_staged f) f rest refl front_is shown found
 
   -- the front that a RECV couldn't take is right in the state after
-  pub again : (front : Front) → (received step.peer).front ≡ Err front → FrontRight o t p front
-  again front none = (step.new_peer, new_is, front_shown front none (by (receives step.peer)) (cleared step.peer).queue refl)
+  shown_now : (front : Front) → (received step.peer).front ≡ Err front → FrontRight o t p front
+  shown_now front none = (step.new_peer, new_is, front_shown front none (by (receives step.peer)) (cleared step.peer).queue refl)
     where
       by : Receives step.peer → received_part step.peer ≡ cleared step.peer
       by (inl same) = same.1
       by (inr (f, rest, took)) = absurd (cc (sym none ∙ took.answer))
+
+-- by the action of the step
+module _ {o : Opening} {s : State} {p : ℕ} {c : Option Command} {t : State} (sound : IsSound o s) (step : Step o s p c t) (is_recv : step.action ≡ act.Recv) where
+  recv_now : going_action step ≡ act.Recv
+  recv_now = (parts step).is_action ∙ is_recv
+
+  pub takes : (got : Receipt) → (received step.peer).front ≡ Ok got → (f : Key × Entry) × (rest : List (Key × Entry)) × ((cleared step.peer).queue ≡ f ∷ rest) × (is_staged f ≡ false)
+      × (got ≡ (taken_entry (record (cleared step.peer) { queue = rest }) f.0 f.1).0) × (step.new_peer.queue ≡ rest)
+  takes got is = by (receives step.peer)
+    where
+      same_ok : (a b : Receipt) → ◌≡◌ {A = Result Receipt Front} (Ok a) (Ok b) → a ≡ b
+      same_ok a b both = cc both
+
+      by : Receives step.peer → (f : Key × Entry) × (rest : List (Key × Entry)) × ((cleared step.peer).queue ≡ f ∷ rest) × (is_staged f ≡ false)
+          × (got ≡ (taken_entry (record (cleared step.peer) { queue = rest }) f.0 f.1).0) × (step.new_peer.queue ≡ rest)
+      by (inl same) = let both : Ok got ≡ Err same.0.0 = sym is ∙ same.0.1 in absurd (cc both)
+      by (inr (f, rest, took)) = (
+        f,
+        rest,
+        took.queue,
+        took.even,
+        same_ok got _ (sym is ∙ took.answer),
+        ap (λ y. y.queue) (sym (parts step).is_peer ∙ ap (λ a. (happens o step.local.memory (going step) (going_doing step) a step.peer).1) recv_now ∙ took.part) ∙ (at_taken f.1 f.0 (record (cleared step.peer) { queue = rest })).0,
+      )
+
+pub again : {o : Opening} {s : State} {p : ℕ} {c : Option Command} {t : State} → IsSound o s → IsRight o s → (step : Step o s p c t) → step.action ≡ act.Recv → (front : Front) → (received step.peer).front ≡ Err front → FrontRight o t p front
+again sound right step is_recv front none = shown_now sound right step ((parts step).is_action ∙ is_recv) front none
 
 -- ---- drained states
 
