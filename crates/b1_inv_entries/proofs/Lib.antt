@@ -25,3 +25,4 @@ pub mod Late
 pub mod TakenStays
 pub mod Taking
 pub mod Waiting
+pub mod NewSend
