@@ -5,3 +5,4 @@ pub mod Travelling
 pub mod Lined
 pub mod SeenKept
 pub mod SeenBegins
+pub mod Collecting
