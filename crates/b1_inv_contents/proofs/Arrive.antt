@@ -1,5 +1,5 @@
 -- The handles of a message that is taken arrive as the record's contents have them.
-use Rattle.std.proofs.Common.{◌≡◌, ◌≢◌, refl, sym, ap, subst, ◌∙◌, ℕ, Bool, false, List, [], map, fold, zip, Option, Some, None, option_map}
+use Rattle.std.proofs.Common.{◌≡◌, refl, sym, ap, subst, ◌∙◌, ℕ, Bool, false, List, [], map, fold, zip, Some, None, option_map}
 use Rattle.std.specs.Prelude.{slice_get}
 use Rattle.std.proofs.lemmas.Option.{same_Some}
 use Rattle.b1_model.specs.declared.naming.Key.{Key}
@@ -15,7 +15,7 @@ use Rattle.b1_model.specs.MachineParts.{PeerPart, State, carried, slots_of}
 use Rattle.b1_model.specs.MachinePool.{published}
 use Rattle.b1_model.specs.MachineReceive.{Arriving, slot_arrives, cleared}
 use Rattle.b1_model.specs.MachineStep.{record_of_state}
-use Rattle.b1_inv.specs.Words.{IsPeer, IsMade}
+use Rattle.b1_inv.specs.Words.{IsMade}
 use Rattle.b1_inv.specs.Sends.{IsFilled}
 use Rattle.b1_inv.specs.Sound.{IsSound}
 use Rattle.b1_ledger.specs.Growth.{calls_len}

@@ -1,9 +1,8 @@
 -- What the record says of a slot of a message that is taken: void slots, taken own nodes and dead records are of nodes destroyed before the send, and no others are.
-use Rattle.std.proofs.Common.{◌≡◌, ◌≢◌, ◌⊎◌, refl, sym, ap, subst, ◌∙◌, inl, inr, ℕ, zero, suc, ◌+◌, ◌<◌, ◌≤◌, ◌==◌, Bool, true, false, cond, not, ◌&&◌, ◌||◌, List, [], ◌∷◌, find, get_or, length, Option, Some, None}
+use Rattle.std.proofs.Common.{◌≡◌, refl, sym, ap, subst, ◌∙◌, inl, inr, ℕ, zero, suc, ◌<◌, ◌≤◌, Bool, true, false, cond, ◌&&◌, List, [], ◌∷◌, get_or, Some, None}
 use Rattle.std.specs.Prelude.{slice_get}
 use Rattle.std.specs.List.{All}
 use Rattle.std.proofs.lemmas.Option.{same_Some, slice_get_within, get_or_from_slice_get}
-use Rattle.std.proofs.lemmas.Bool.{ltb-true, eqb-true, and_parts}
 use native.Mathlib.Omega.{arith}
 use Rattle.b1_model.specs.declared.naming.Key.{Key}
 use Rattle.b1_model.specs.declared.naming.NodeRef.{NodeRef}
@@ -13,42 +12,31 @@ use Rattle.b1_model.specs.declared.parts.NodeState.TheVariants.{Live, Dying, Des
 use Rattle.b1_model.specs.declared.parts.Slot.{Slot}
 use Rattle.b1_model.specs.declared.parts.Slot.TheVariants as slot
 use Rattle.b1_model.specs.declared.entries.Entry.{Entry}
-use Rattle.b1_model.specs.declared.entries.Entry.TheVariants.{OwnNotice, ForeignNotice}
-use Rattle.b1_model.specs.declared.events.Doing.{Doing}
-use Rattle.b1_model.specs.declared.events.Phase.{Phase}
-use Rattle.b1_model.specs.declared.events.Phase.TheVariants.{Visiting, Dooming, SyncingNotices, CommittingOwn, CommittingNotices}
+use Rattle.b1_model.specs.declared.entries.Entry.TheVariants.{OwnNotice}
 use Rattle.b1_model.specs.declared.records.Record.{Record}
-use Rattle.b1_model.specs.Names.{Node, Name, made, number_at, calls_of}
-use Rattle.b1_model.specs.Ledger.{Message, message, is_before, is_late}
-use Rattle.b1_model.specs.MachineParts.{PeerPart, NodePart, DriverPart, HandleRecord, State, is_staged, is_data, carried, slots_of, is_live, is_dying, is_destroyed, key_before, no_node, node_at, same_ref, no_record, record_of, record_or_none}
-use Rattle.b1_model.specs.MachineReceive.{is_for_nobody, discards, cleared}
+use Rattle.b1_model.specs.Names.{Node, Name, made, number_at}
+use Rattle.b1_model.specs.Ledger.{Message, message, is_late}
+use Rattle.b1_model.specs.MachineParts.{PeerPart, NodePart, State, is_staged, is_data, carried, slots_of, is_destroyed, key_before, no_node, node_at, record_or_none}
+use Rattle.b1_model.specs.MachineReceive.{cleared}
 use Rattle.b1_model.specs.MachineTook.{driver_calls}
-use Rattle.b1_model.specs.MachineEvents.{doomed_of, collected_of}
 use Rattle.b1_model.specs.MachineStep.{record_of_state}
 use Rattle.b1_step.specs.Rights.{Has}
 use Rattle.b1_step.specs.Ordered.{Ascending}
-use Rattle.b1_step.proofs.Orders.{same_ref_is}
-use Rattle.b1_inv.specs.Words.{IsPeer, IsDriver, IsMade, stamp_of_phase, phase_uncommitted, is_uncommitted}
+use Rattle.b1_inv.specs.Words.{IsPeer, phase_uncommitted, is_uncommitted}
 use Rattle.b1_inv.specs.Sends.{IsFilled}
-use Rattle.b1_inv.specs.Notices.{DestructionShape, doomed_now}
 use Rattle.b1_inv.specs.References.{AreFilled}
 use Rattle.b1_inv.specs.Sound.{IsSound}
 use Rattle.b1_ledger.specs.Growth.{calls_len}
-use Rattle.b1_ledger.proofs.Sequences.{bool_cases, or_true}
-use Rattle.b1_inv_record.specs.Epochs.{awaits_flush, in_gap, flushed_calls, made_before, first_now, first_done, is_unstaging, ref_of}
+use Rattle.b1_inv_record.specs.Epochs.{awaits_flush, in_gap, flushed_calls, made_before, first_now, first_done, ref_of}
 use Rattle.b1_inv_record.specs.Destructions.{own_ref, doomed_key, awaits_commit}
 use Rattle.b1_inv_record.specs.Holders.{slots_now}
 use Rattle.b1_inv_record.specs.Right.{IsRight}
-use Rattle.b1_inv_notices.proofs.Turns.{get_there}
 use Rattle.b1_inv_names.proofs.Recorded.{recorded_calls}
 use Rattle.b1_inv_refs.proofs.Arrivals.{is_cleared}
-use Rattle.b1_inv_refs.proofs.GivenUp.{found_has, one_record}
 use Rattle.b1_inv_legal.specs.Fronts.{CanTake}
 use Rattle.b1_inv_legal.proofs.Front.{front_queued}
 use Rattle.b1_inv_legal.proofs.Notices.{own_number}
-use Rattle.b1_inv_tables.proofs.Slots.{IsJudged}
-use Rattle.b1_inv_contents.proofs.Removed.{WasDead, NoticeOf, cleared_dead, AllDead, dead_behind}
-use Rattle.b1_inv_contents.proofs.Order.{before_is_below, lower_stamp, notice_before, removed_before, removed_is, before_removed}
+use Rattle.b1_inv_contents.proofs.Order.{before_is_below, lower_stamp, notice_before, removed_is, before_removed}
 use Rattle.b1_inv_contents.proofs.Lateness.{rises, late_key, key_node, key_late}
 
 -- ---- lists
