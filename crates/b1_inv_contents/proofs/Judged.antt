@@ -41,36 +41,44 @@ use Rattle.b1_inv_contents.proofs.Lateness.{rises, late_key, key_node, key_late}
 
 -- ---- lists
 
+-- a filled slot at its place
 pub filled_at : (q : ℕ) (nodes : List NodeRef) (slots : List Slot) (j : ℕ) (n : NodeRef) (t : Slot) → AreFilled q nodes slots → slice_get nodes j ≡ Some n → slice_get slots j ≡ Some t → IsFilled (record { owner = q; serial = 0 }) n t
 filled_at q [] slots j n t filled at also = absurd (cc at)
 filled_at q (m ∷ nodes) [] j n t filled at also = absurd filled
 filled_at q (m ∷ nodes) (u ∷ slots) zero n t filled at also = subst (λ z. IsFilled (record { owner = q; serial = 0 }) z t) (same_Some m n at) (subst (IsFilled (record { owner = q; serial = 0 }) m) (same_Some u t also) filled.0)
 filled_at q (m ∷ nodes) (u ∷ slots) (suc j) n t filled at also = filled_at q nodes slots j n t filled.1 at also
 
+-- what holds of all items, at one place
 pub all_at : {A : Type 0} (P : A → Type 0) (xs : List A) (j : ℕ) (a : A) → All P xs → slice_get xs j ≡ Some a → P a
 all_at P xs j a all at = subst P (get_or_from_slice_get xs j a a at) (all j a (slice_get_within xs j a at))
 
+-- an item of a list stands at a place
 pub place_of : {A : Type 0} (xs : List A) (a : A) → Has xs a → (j : ℕ) × (slice_get xs j ≡ Some a)
 place_of [] a there = absurd there
 place_of (x ∷ xs) a (inl here) = (0, ap Some (sym here))
 place_of (x ∷ xs) a (inr further) = let k = place_of xs a further in (suc k.0, k.1)
 
+-- a key that is before all of a queue is before each entry
 pub behind_at : (key : Key) (queue : List (Key × Entry)) (f : Key × Entry) → All (λ g. key_before key g.0 ≡ true) queue → Has queue f → key_before key f.0 ≡ true
 behind_at key queue f all there = let k = place_of queue f there in all_at (λ g. key_before key g.0 ≡ true) queue k.0 f all k.1
 
+-- a test that fails chooses the second value
 pub else_is : {A : Type 0} (b : Bool) (u v : A) → b ≡ false → cond b u v ≡ v
 else_is true u v is = absurd (cc is)
 else_is false u v is = refl
 
+-- both don't pass where the first doesn't
 pub not_first : (a b : Bool) → a ≡ false → (a && b) ≡ false
 not_first true b is = absurd (cc is)
 not_first false b is = refl
 
+-- a destroyed state has a stamp
 pub destroyed_with : (state : NodeState) → is_destroyed state ≡ true → (stamp : ℕ) × (state ≡ Destroyed stamp)
 destroyed_with Live is = absurd (cc is)
 destroyed_with Dying is = absurd (cc is)
 destroyed_with (Destroyed stamp) is = (stamp, refl)
 
+-- a test that passes exactly where another one does is the same
 pub either_is : (a b : Bool) → (b ≡ true → a ≡ true) → (b ≡ false → a ≡ true → ⊥) → a ≡ b
 either_is a true there none = there refl
 either_is true false there none = absurd (none refl refl)
@@ -91,25 +99,31 @@ module _ {o : Opening} {s : State} (sound : IsSound o s) (right : IsRight o s) {
   abbrev pub dead : NodeRef → Bool
   dead node = (record_or_none node (cleared x).handles).dead
 
+  -- the message stands in the queue
   pub has : Has x.queue f
   has = front_queued can
 
+  -- the keys of the queue ascend
   pub up_queue : Ascending x.queue
   up_queue = right.parts.keys.ascending p x can.is_peer
 
   -- a node's notice with a key before the front's
   module _ (y : Node) (w : PeerPart) (n : NodePart) (is : IsPeer s y.owner w) (at : slice_get w.nodes y.serial ≡ Some n) where
+    -- a node whose notice has a key before the message's was destroyed before it
     pub late_by_key : (notice : Key) → doomed_key o s (ref_of y) ≡ Some notice → key_before notice f.0 ≡ true → late y ≡ true
     late_by_key notice keyed before =
         let z = key_node right y w n is at notice keyed in
         key_late right y w n is at notice f.0 keyed (notice_before o.wires r (rises right) notice f.0 m z.0 z.1 is_sent before)
 
+    -- a destroyed node has a notice's key with its stamp
     pub destroyed_key : (stamp : ℕ) → n.state ≡ Destroyed stamp → (notice : Key) × (doomed_key o s (ref_of y) ≡ Some notice) × (notice.stamp ≡ stamp)
     destroyed_key stamp state = right.destructions.dying.destroyed y.owner y.serial stamp w n is at state
 
+    -- a node with a notice's key is destroyed with its stamp
     pub key_destroyed : (notice : Key) → doomed_key o s (ref_of y) ≡ Some notice → n.state ≡ Destroyed notice.stamp
     key_destroyed notice keyed = right.destructions.dying.recorded y.owner y.serial w n notice is at keyed
 
+    -- the node at its serial has its state
     pub state_at : (node_at w y.serial).state ≡ n.state
     state_at = ap (λ k. k.state) (get_or_from_slice_get w.nodes y.serial n no_node at)
 

@@ -23,9 +23,11 @@ use Rattle.b1_inv_legal.specs.Fronts.{CanTake}
 
 -- ---- keys
 
+-- keys are ordered as their stamps and origins are
 pub before_is_below : (a b : Key) → is_before a.stamp a.origin b.stamp b.origin ≡ true → key_before a b ≡ true
 before_is_below a b is = sym (below_is_less a b) ∙ or_left (is_before a.stamp a.origin b.stamp b.origin) (((a.stamp == b.stamp) && (a.origin == b.origin)) && nat_lt a.index b.index) is
 
+-- a lower stamp is before a higher one
 pub lower_stamp : (a b : Key) → a.stamp < b.stamp → is_before a.stamp a.origin b.stamp b.origin ≡ true
 lower_stamp a b low = or_left (nat_lt a.stamp b.stamp) ((a.stamp == b.stamp) && nat_lt a.origin b.origin) (lt-ltb a.stamp b.stamp low)
 
@@ -82,6 +84,7 @@ module _ {s : State} {p : ℕ} {x : PeerPart} {f : Key × Entry} {rest : List (K
   pub removed_before : (g : Key × Entry) → Has (discards x) g → key_before g.0 f.0 ≡ true
   removed_before g there = split_least (discards x) f rest (subst Ascending in_two up) g there
 
+  -- what is removed is committed and for nobody
   pub removed_is : (g : Key × Entry) → Has (discards x) g → (is_staged g ≡ false) × (is_for_nobody x g.1 ≡ true)
   removed_is g there =
       let k = and_parts (not (is_staged g)) (is_for_nobody x g.1) (passes (λ z. not (is_staged z) && is_for_nobody x z.1) x.queue g there) in

@@ -189,6 +189,7 @@ module _ {o : Opening} {s : State} (sound : IsSound o s) (right : IsRight o s) {
         let removed = removed_if k i inside (before_is_below k f.0 (lower_stamp k f.0 (omega (arith, low, high)))) in
         let both : true ≡ false = sym staged ∙ (removed_is can (up_queue sound right can is_message m is_sent) (k, ForeignNotice node i) removed).0 in cc both
 
+    -- a record that isn't dead is of no node that was destroyed before the send
     pub undead_soon : ⊥
     undead_soon =
         let state = state_at sound right can is_message m is_sent y w n is at ∙ ended in
@@ -201,6 +202,7 @@ module _ {o : Opening} {s : State} (sound : IsSound o s) (right : IsRight o s) {
           | inr dying ↦ let both : true ≡ false = sym dying.0 ∙ ap (λ z. is_dying (node_at w z.serial).state) (record_node node x.handles) ∙ ap is_dying state in cc both
         ]
 
+  -- the node of a counted slot was destroyed before the send exactly where its record is dead
   pub attached_judged : late ≡ dead sound right can is_message m is_sent node
   attached_judged = either_is late (dead sound right can is_message m is_sent node) dead_late soon
     where

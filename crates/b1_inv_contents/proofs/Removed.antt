@@ -80,6 +80,7 @@ all_dead_from ((k, e) ∷ es) x h there dead = elim (all_dead_from es (discarded
   ]
 ]
 
+-- a record that is dead behind the removals was dead, or its notice was removed
 pub cleared_dead : (x : PeerPart) (h : HandleRecord) → Has (cleared x).handles h → h.dead ≡ true → WasDead x.handles h ⊎ NoticeOf (discards x) h.node
 cleared_dead x h there dead = all_dead_from (discards x) (record x { queue = drop (length (discards x)) x.queue }) h there dead
 
