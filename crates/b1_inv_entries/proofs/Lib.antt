@@ -26,3 +26,4 @@ pub mod TakenStays
 pub mod Taking
 pub mod Waiting
 pub mod NewSend
+pub mod Somewhere
