@@ -27,3 +27,5 @@ pub mod Taking
 pub mod Waiting
 pub mod NewSend
 pub mod Somewhere
+pub mod SomewhereKept
+pub mod Together
