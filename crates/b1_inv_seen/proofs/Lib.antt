@@ -6,3 +6,4 @@ pub mod Lined
 pub mod SeenKept
 pub mod SeenBegins
 pub mod Collecting
+pub mod Begins
