@@ -7,3 +7,4 @@ pub mod SeenKept
 pub mod SeenBegins
 pub mod Collecting
 pub mod Begins
+pub mod Blocked
