@@ -1,14 +1,14 @@
 -- A destruction begins: a peer whose receipts haven't come to a doomed node's owner has references to it, and is to be visited.
-use Rattle.std.proofs.Common.{◌≡◌, ◌≢◌, ◌⊎◌, refl, sym, ap, subst, ◌∙◌, inl, inr, ℕ, zero, suc, ◌+◌, ◌≤◌, ◌<◌, ◌==◌, ◌&&◌, Bool, true, false, cond, List, [], ◌∷◌, length, Option, Some, None}
+use Rattle.std.proofs.Common.{◌≡◌, ◌≢◌, ◌⊎◌, refl, sym, ap, subst, ◌∙◌, inl, inr, ℕ, zero, suc, ◌+◌, ◌≤◌, ◌==◌, ◌&&◌, true, false, cond, List, [], ◌∷◌, Option, Some, None}
 use Rattle.std.specs.Prelude.{slice_get}
-use Rattle.std.proofs.lemmas.Bool.{eq-eqb, cases_eq}
+use Rattle.std.proofs.lemmas.Bool.{eq-eqb}
 use Rattle.std.proofs.lemmas.Option.{same_Some}
 use native.Mathlib.Omega.{arith}
 use Rattle.b1_model.specs.declared.commands.Command.{Command}
 use Rattle.b1_model.specs.declared.naming.NodeRef.{NodeRef}
 use Rattle.b1_model.specs.declared.naming.Opening.{Opening}
 use Rattle.b1_model.specs.declared.events.OwedDrop.{OwedDrop}
-use Rattle.b1_model.specs.MachineParts.{PeerPart, DriverPart, HandleRecord, NodePart, State, is_live, is_dying, is_destroyed, same_ref, node_at, no_record, record_or_none}
+use Rattle.b1_model.specs.MachineParts.{PeerPart, DriverPart, State, is_live, is_dying, same_ref, node_at, no_record}
 use Rattle.b1_model.specs.declared.parts.NodeState.{NodeState}
 use Rattle.b1_model.specs.declared.parts.NodeState.TheVariants.{Live, Dying, Destroyed}
 use Rattle.b1_model.specs.MachineCounts.{amount_in, dead_amount, queue_amount, peer_amount, owed_amount, driver_amount, fresh}
@@ -19,12 +19,10 @@ use Rattle.b1_inv.specs.Words.{IsPeer, IsDriver, IsMade}
 use Rattle.b1_inv.specs.Sound.{IsSound}
 use Rattle.b1_inv_record.specs.Holders.{HolderCovered, IsCovered, IsDue, Travels}
 use Rattle.b1_inv_tools.proofs.Leaves.{peer_cases}
-use Rattle.b1_inv_notices.proofs.Nodes.{dooms}
-use Rattle.b1_inv_notices.proofs.Turns.{going_action}
 use Rattle.b1_inv_refs.proofs.Amounts.{Refs, dead_cons, owed_cons}
 use Rattle.b1_inv_refs.proofs.Counting.{member_le}
 use Rattle.b1_inv_refs.proofs.Arrivals.{held_in}
-use Rattle.b1_inv_holders.proofs.Held.{at_owner, state_same}
+use Rattle.b1_inv_holders.proofs.Held.{at_owner}
 use Rattle.b1_inv_seen.proofs.HoldEvents.{held_record}
 use Rattle.b1_inv_seen.proofs.Owes.{ref_there}
 

@@ -1,5 +1,5 @@
 -- A peer that takes an entry while it holds a dying node: the node's staged notice stands behind that entry, so the destruction has collected its stamp; or the peer is still to be visited.
-use Rattle.std.proofs.Common.{◌≡◌, ◌≢◌, ◌⊎◌, refl, sym, ap, subst, ◌∙◌, inl, inr, ℕ, zero, suc, ◌+◌, ◌≤◌, ◌<◌, ◌%◌, ◌==◌, Bool, true, false, cond, List, [], ◌∷◌, get_or, length, Option, Some, None}
+use Rattle.std.proofs.Common.{◌≡◌, ◌⊎◌, refl, sym, ap, subst, ◌∙◌, inl, inr, ℕ, zero, suc, ◌+◌, ◌≤◌, Bool, true, false, List, [], ◌∷◌, get_or, Option, Some, None}
 use Rattle.std.specs.Prelude.{slice_get}
 use Rattle.std.proofs.lemmas.Bool.{cases_eq}
 use native.Mathlib.Omega.{arith}
@@ -14,14 +14,12 @@ use Rattle.b1_model.specs.declared.events.Phase.TheVariants.{Unstaging}
 use Rattle.b1_model.specs.declared.parts.NodeState.{NodeState}
 use Rattle.b1_model.specs.declared.parts.NodeState.TheVariants.{Live, Dying, Destroyed}
 use Rattle.b1_model.specs.MachineParts.{PeerPart, DriverPart, HandleRecord, NodePart, State, is_live, is_dying, is_staged, is_odd, same_ref, no_node, node_at, record_of, record_or_none, slots_of}
-use Rattle.b1_model.specs.MachineReceive.{received_part}
 use Rattle.b1_model.specs.MachineEvents.{collected_of, doomed_of}
 use Rattle.b1_step.specs.Rights.{Has}
 use Rattle.b1_step.proofs.Orders.{same_ref_is}
 use Rattle.b1_inv.specs.Words.{IsPeer, IsDriver}
-use Rattle.b1_inv.specs.Notices.{doomed_now}
 use Rattle.b1_inv.specs.Sound.{IsSound}
-use Rattle.b1_inv_record.specs.Destructions.{own_ref, doomed_key}
+use Rattle.b1_inv_record.specs.Destructions.{doomed_key}
 use Rattle.b1_inv_record.specs.Epochs.{is_unstaging}
 use Rattle.b1_inv_record.specs.Holders.{IsCovered, IsDue, collected_now}
 use Rattle.b1_inv_record.specs.Right.{IsRight}

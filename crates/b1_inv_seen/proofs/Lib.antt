@@ -8,3 +8,4 @@ pub mod SeenBegins
 pub mod Collecting
 pub mod Begins
 pub mod Blocked
+pub mod CollectedKept

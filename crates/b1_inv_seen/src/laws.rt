@@ -5,7 +5,7 @@ ghost use Rattle.b1_model.specs.MachineParts.{State};
 ghost use Rattle.b1_model.specs.MachineStep.{Step, opening_state};
 ghost use Rattle.b1_model.specs.Opening.{IsOpening};
 ghost use Rattle.b1_inv.specs.Sound.{IsSound};
-ghost use Rattle.b1_inv_record.specs.Holders.{SeenTravels};
+ghost use Rattle.b1_inv_record.specs.Holders.{SeenCollected, SeenTravels};
 ghost use Rattle.b1_inv_record.specs.Right.{IsRight};
 
 /// What a peer took while a node stood in its table is at most the clock of the node's owner, or the peer still holds the
@@ -14,4 +14,12 @@ ghost use Rattle.b1_inv_record.specs.Right.{IsRight};
 pub fn what_holders_took_travels()
     ensures opening_SeenTravels { (o : Opening) → IsOpening o → SeenTravels o (opening_state o) }
     ensures kept_SeenTravels { (o : Opening) (s : State) (p : ℕ) (c : Option Command) (t : State) → IsSound o s → IsRight o s → Step o s p c t → SeenTravels o t }
+{}
+
+/// What a peer took while a node stood in its table that is dying now is at most the clock of the node's owner, or what
+/// the destruction has collected, or the destruction is still to visit the peer: a step keeps it so, and every bus begins
+/// so.
+pub fn what_holders_took_is_collected()
+    ensures opening_SeenCollected { (o : Opening) → IsOpening o → SeenCollected o (opening_state o) }
+    ensures kept_SeenCollected { (o : Opening) (s : State) (p : ℕ) (c : Option Command) (t : State) → IsSound o s → IsRight o s → Step o s p c t → SeenCollected o t }
 {}

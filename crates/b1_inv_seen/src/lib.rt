@@ -3,4 +3,4 @@
 
 mod laws;
 
-pub use laws::what_holders_took_travels;
+pub use laws::{what_holders_took_is_collected, what_holders_took_travels};
