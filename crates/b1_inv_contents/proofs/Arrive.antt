@@ -1,5 +1,5 @@
 -- The handles of a message that is taken arrive as the record's contents have them.
-use Rattle.std.proofs.Common.{◌≡◌, ◌≢◌, refl, sym, ap, subst, ◌∙◌, ℕ, Bool, false, List, [], map, fold, zip, Option, Some, None, option_map}
+use Rattle.std.proofs.Common.{◌≡◌, refl, sym, ap, subst, ◌∙◌, ℕ, Bool, false, List, [], map, fold, zip, Some, None, option_map}
 use Rattle.std.specs.Prelude.{slice_get}
 use Rattle.std.proofs.lemmas.Option.{same_Some}
 use Rattle.b1_model.specs.declared.naming.Key.{Key}
@@ -15,7 +15,7 @@ use Rattle.b1_model.specs.MachineParts.{PeerPart, State, carried, slots_of}
 use Rattle.b1_model.specs.MachinePool.{published}
 use Rattle.b1_model.specs.MachineReceive.{Arriving, slot_arrives, cleared}
 use Rattle.b1_model.specs.MachineStep.{record_of_state}
-use Rattle.b1_inv.specs.Words.{IsPeer, IsMade}
+use Rattle.b1_inv.specs.Words.{IsMade}
 use Rattle.b1_inv.specs.Sends.{IsFilled}
 use Rattle.b1_inv.specs.Sound.{IsSound}
 use Rattle.b1_ledger.specs.Growth.{calls_len}
@@ -97,11 +97,13 @@ module _ {o : Opening} {s : State} (sound : IsSound o s) (right : IsRight o s) (
           same_nodes
           (cleared_table x (sound.rising p x can.is_peer) (numbered sound right p x can.is_peer) (flies sound right p x can.is_peer) (has_slots sound right p x can.is_peer) (own_numbered sound right p x can.is_peer) tab is_table)
 
+  -- the handles of this message arrive so
   pub slots_arrive_here : (offset : ℕ) → delivered x taking.rest offset nodes slots ≡ arrived late p known m.carried tab
   slots_arrive_here offset =
       ap (λ ns. delivered x taking.rest offset ns slots) (sym taking.carries)
       ∙ ap (delivered x taking.rest offset (carried f.1)) (sym taking.has_slots)
       ∙ arrive_so offset
 
+-- the handles of every message that a peer may take arrive so
 pub slots_arrive : {o : Opening} {s : State} → IsSound o s → IsRight o s → SlotsArrive o s
 slots_arrive sound right p offset x f nodes slots m taking = slots_arrive_here sound right p x f nodes slots m taking offset

@@ -1,9 +1,8 @@
 -- What the record says of a slot of a message that is taken: void slots, taken own nodes and dead records are of nodes destroyed before the send, and no others are.
-use Rattle.std.proofs.Common.{◌≡◌, ◌≢◌, ◌⊎◌, refl, sym, ap, subst, ◌∙◌, inl, inr, ℕ, zero, suc, ◌+◌, ◌<◌, ◌≤◌, ◌==◌, Bool, true, false, cond, not, ◌&&◌, ◌||◌, List, [], ◌∷◌, find, get_or, length, Option, Some, None}
+use Rattle.std.proofs.Common.{◌≡◌, refl, sym, ap, subst, ◌∙◌, inl, inr, ℕ, zero, suc, ◌<◌, ◌≤◌, Bool, true, false, cond, ◌&&◌, List, [], ◌∷◌, get_or, Some, None}
 use Rattle.std.specs.Prelude.{slice_get}
 use Rattle.std.specs.List.{All}
 use Rattle.std.proofs.lemmas.Option.{same_Some, slice_get_within, get_or_from_slice_get}
-use Rattle.std.proofs.lemmas.Bool.{ltb-true, eqb-true, and_parts}
 use native.Mathlib.Omega.{arith}
 use Rattle.b1_model.specs.declared.naming.Key.{Key}
 use Rattle.b1_model.specs.declared.naming.NodeRef.{NodeRef}
@@ -13,76 +12,73 @@ use Rattle.b1_model.specs.declared.parts.NodeState.TheVariants.{Live, Dying, Des
 use Rattle.b1_model.specs.declared.parts.Slot.{Slot}
 use Rattle.b1_model.specs.declared.parts.Slot.TheVariants as slot
 use Rattle.b1_model.specs.declared.entries.Entry.{Entry}
-use Rattle.b1_model.specs.declared.entries.Entry.TheVariants.{OwnNotice, ForeignNotice}
-use Rattle.b1_model.specs.declared.events.Doing.{Doing}
-use Rattle.b1_model.specs.declared.events.Phase.{Phase}
-use Rattle.b1_model.specs.declared.events.Phase.TheVariants.{Visiting, Dooming, SyncingNotices, CommittingOwn, CommittingNotices}
+use Rattle.b1_model.specs.declared.entries.Entry.TheVariants.{OwnNotice}
 use Rattle.b1_model.specs.declared.records.Record.{Record}
-use Rattle.b1_model.specs.Names.{Node, Name, made, number_at, calls_of}
-use Rattle.b1_model.specs.Ledger.{Message, message, is_before, is_late}
-use Rattle.b1_model.specs.MachineParts.{PeerPart, NodePart, DriverPart, HandleRecord, State, is_staged, is_data, carried, slots_of, is_live, is_dying, is_destroyed, key_before, no_node, node_at, same_ref, no_record, record_of, record_or_none}
-use Rattle.b1_model.specs.MachineReceive.{is_for_nobody, discards, cleared}
+use Rattle.b1_model.specs.Names.{Node, Name, made, number_at}
+use Rattle.b1_model.specs.Ledger.{Message, message, is_late}
+use Rattle.b1_model.specs.MachineParts.{PeerPart, NodePart, State, is_staged, is_data, carried, slots_of, is_destroyed, key_before, no_node, node_at, record_or_none}
+use Rattle.b1_model.specs.MachineReceive.{cleared}
 use Rattle.b1_model.specs.MachineTook.{driver_calls}
-use Rattle.b1_model.specs.MachineEvents.{doomed_of, collected_of}
 use Rattle.b1_model.specs.MachineStep.{record_of_state}
 use Rattle.b1_step.specs.Rights.{Has}
 use Rattle.b1_step.specs.Ordered.{Ascending}
-use Rattle.b1_step.proofs.Orders.{same_ref_is}
-use Rattle.b1_inv.specs.Words.{IsPeer, IsDriver, IsMade, stamp_of_phase, phase_uncommitted, is_uncommitted}
+use Rattle.b1_inv.specs.Words.{IsPeer, phase_uncommitted, is_uncommitted}
 use Rattle.b1_inv.specs.Sends.{IsFilled}
-use Rattle.b1_inv.specs.Notices.{DestructionShape, doomed_now}
 use Rattle.b1_inv.specs.References.{AreFilled}
 use Rattle.b1_inv.specs.Sound.{IsSound}
 use Rattle.b1_ledger.specs.Growth.{calls_len}
-use Rattle.b1_ledger.proofs.Sequences.{bool_cases, or_true}
-use Rattle.b1_inv_record.specs.Epochs.{awaits_flush, in_gap, flushed_calls, made_before, first_now, first_done, is_unstaging, ref_of}
+use Rattle.b1_inv_record.specs.Epochs.{awaits_flush, in_gap, flushed_calls, made_before, first_now, first_done, ref_of}
 use Rattle.b1_inv_record.specs.Destructions.{own_ref, doomed_key, awaits_commit}
 use Rattle.b1_inv_record.specs.Holders.{slots_now}
 use Rattle.b1_inv_record.specs.Right.{IsRight}
-use Rattle.b1_inv_notices.proofs.Turns.{get_there}
 use Rattle.b1_inv_names.proofs.Recorded.{recorded_calls}
 use Rattle.b1_inv_refs.proofs.Arrivals.{is_cleared}
-use Rattle.b1_inv_refs.proofs.GivenUp.{found_has, one_record}
 use Rattle.b1_inv_legal.specs.Fronts.{CanTake}
 use Rattle.b1_inv_legal.proofs.Front.{front_queued}
 use Rattle.b1_inv_legal.proofs.Notices.{own_number}
-use Rattle.b1_inv_tables.proofs.Slots.{IsJudged}
-use Rattle.b1_inv_contents.proofs.Removed.{WasDead, NoticeOf, cleared_dead, AllDead, dead_behind}
-use Rattle.b1_inv_contents.proofs.Order.{before_is_below, lower_stamp, notice_before, removed_before, removed_is, before_removed}
+use Rattle.b1_inv_contents.proofs.Order.{before_is_below, lower_stamp, notice_before, removed_is, before_removed}
 use Rattle.b1_inv_contents.proofs.Lateness.{rises, late_key, key_node, key_late}
 
 -- ---- lists
 
+-- a filled slot at its place
 pub filled_at : (q : ℕ) (nodes : List NodeRef) (slots : List Slot) (j : ℕ) (n : NodeRef) (t : Slot) → AreFilled q nodes slots → slice_get nodes j ≡ Some n → slice_get slots j ≡ Some t → IsFilled (record { owner = q; serial = 0 }) n t
 filled_at q [] slots j n t filled at also = absurd (cc at)
 filled_at q (m ∷ nodes) [] j n t filled at also = absurd filled
 filled_at q (m ∷ nodes) (u ∷ slots) zero n t filled at also = subst (λ z. IsFilled (record { owner = q; serial = 0 }) z t) (same_Some m n at) (subst (IsFilled (record { owner = q; serial = 0 }) m) (same_Some u t also) filled.0)
 filled_at q (m ∷ nodes) (u ∷ slots) (suc j) n t filled at also = filled_at q nodes slots j n t filled.1 at also
 
+-- what holds of all items, at one place
 pub all_at : {A : Type 0} (P : A → Type 0) (xs : List A) (j : ℕ) (a : A) → All P xs → slice_get xs j ≡ Some a → P a
 all_at P xs j a all at = subst P (get_or_from_slice_get xs j a a at) (all j a (slice_get_within xs j a at))
 
+-- an item of a list stands at a place
 pub place_of : {A : Type 0} (xs : List A) (a : A) → Has xs a → (j : ℕ) × (slice_get xs j ≡ Some a)
 place_of [] a there = absurd there
 place_of (x ∷ xs) a (inl here) = (0, ap Some (sym here))
 place_of (x ∷ xs) a (inr further) = let k = place_of xs a further in (suc k.0, k.1)
 
+-- a key that is before all of a queue is before each entry
 pub behind_at : (key : Key) (queue : List (Key × Entry)) (f : Key × Entry) → All (λ g. key_before key g.0 ≡ true) queue → Has queue f → key_before key f.0 ≡ true
 behind_at key queue f all there = let k = place_of queue f there in all_at (λ g. key_before key g.0 ≡ true) queue k.0 f all k.1
 
+-- a test that fails chooses the second value
 pub else_is : {A : Type 0} (b : Bool) (u v : A) → b ≡ false → cond b u v ≡ v
 else_is true u v is = absurd (cc is)
 else_is false u v is = refl
 
+-- both don't pass where the first doesn't
 pub not_first : (a b : Bool) → a ≡ false → (a && b) ≡ false
 not_first true b is = absurd (cc is)
 not_first false b is = refl
 
+-- a destroyed state has a stamp
 pub destroyed_with : (state : NodeState) → is_destroyed state ≡ true → (stamp : ℕ) × (state ≡ Destroyed stamp)
 destroyed_with Live is = absurd (cc is)
 destroyed_with Dying is = absurd (cc is)
 destroyed_with (Destroyed stamp) is = (stamp, refl)
 
+-- a test that passes exactly where another one does is the same
 pub either_is : (a b : Bool) → (b ≡ true → a ≡ true) → (b ≡ false → a ≡ true → ⊥) → a ≡ b
 either_is a true there none = there refl
 either_is true false there none = absurd (none refl refl)
@@ -103,25 +99,31 @@ module _ {o : Opening} {s : State} (sound : IsSound o s) (right : IsRight o s) {
   abbrev pub dead : NodeRef → Bool
   dead node = (record_or_none node (cleared x).handles).dead
 
+  -- the message stands in the queue
   pub has : Has x.queue f
   has = front_queued can
 
+  -- the keys of the queue ascend
   pub up_queue : Ascending x.queue
   up_queue = right.parts.keys.ascending p x can.is_peer
 
   -- a node's notice with a key before the front's
   module _ (y : Node) (w : PeerPart) (n : NodePart) (is : IsPeer s y.owner w) (at : slice_get w.nodes y.serial ≡ Some n) where
+    -- a node whose notice has a key before the message's was destroyed before it
     pub late_by_key : (notice : Key) → doomed_key o s (ref_of y) ≡ Some notice → key_before notice f.0 ≡ true → late y ≡ true
     late_by_key notice keyed before =
         let z = key_node right y w n is at notice keyed in
         key_late right y w n is at notice f.0 keyed (notice_before o.wires r (rises right) notice f.0 m z.0 z.1 is_sent before)
 
+    -- a destroyed node has a notice's key with its stamp
     pub destroyed_key : (stamp : ℕ) → n.state ≡ Destroyed stamp → (notice : Key) × (doomed_key o s (ref_of y) ≡ Some notice) × (notice.stamp ≡ stamp)
     destroyed_key stamp state = right.destructions.dying.destroyed y.owner y.serial stamp w n is at state
 
+    -- a node with a notice's key is destroyed with its stamp
     pub key_destroyed : (notice : Key) → doomed_key o s (ref_of y) ≡ Some notice → n.state ≡ Destroyed notice.stamp
     key_destroyed notice keyed = right.destructions.dying.recorded y.owner y.serial w n notice is at keyed
 
+    -- the node at its serial has its state
     pub state_at : (node_at w y.serial).state ≡ n.state
     state_at = ap (λ k. k.state) (get_or_from_slice_get w.nodes y.serial n no_node at)
 

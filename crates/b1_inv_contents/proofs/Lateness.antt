@@ -1,5 +1,5 @@
 -- A node is destroyed before a call exactly where the key of its notice is before it.
-use Rattle.std.proofs.Common.{◌≡◌, refl, sym, ap, ◌∙◌, ℕ, ◌==◌, ◌&&◌, true, List, length, Option, Some, None}
+use Rattle.std.proofs.Common.{◌≡◌, refl, sym, ap, ◌∙◌, ◌==◌, ◌&&◌, true, List, Option, Some, None}
 use Rattle.std.specs.Prelude.{slice_get}
 use Rattle.std.specs.List.{list_any}
 use Rattle.b1_model.specs.declared.naming.Key.{Key}
@@ -33,18 +33,22 @@ module _ {o : Opening} {s : State} (right : IsRight o s) where
   abbrev r : Record
   r = record_of_state s
 
+  -- the stamps of each peer's calls rise
   pub rises : RisesAt r
   rises = right.legal.order
 
+  -- a node that was destroyed before a key has a notice's key before it
   pub late_key : (x : Node) (key : Key) → is_late o.wires r x key ≡ true → (notice : Key) × (y : Node) × (doomed_key o s (ref_of x) ≡ Some notice) × (doomed_at o.wires r notice ≡ Some y) × (is_before notice.stamp notice.origin key.stamp key.origin ≡ true)
   late_key x key is =
       let z = late_notice o.wires r rises x key is in
       (z.0, z.1, ap (doomed_key o s) (same_ref_is (ref_of x) (ref_of z.1) z.3) ∙ right.destructions.keys.key z.0 z.1 z.2, z.2, z.4)
 
   module _ (x : Node) (w : PeerPart) (n : NodePart) (is : IsPeer s x.owner w) (at : slice_get w.nodes x.serial ≡ Some n) where
+    -- the record has the node under the key of its notice
     pub key_node : (notice : Key) → doomed_key o s (ref_of x) ≡ Some notice → (y : Node) × (doomed_at o.wires r notice ≡ Some y) × (ref_of y ≡ ref_of x)
     key_node notice keyed = mapped (doomed_at o.wires r notice) (own_ref x.owner x.serial) (right.destructions.keys.node x.owner x.serial w n notice is at keyed)
 
+    -- a node with a notice's key before another key was destroyed before that
     pub key_late : (notice key : Key) → doomed_key o s (ref_of x) ≡ Some notice → is_before notice.stamp notice.origin key.stamp key.origin ≡ true → is_late o.wires r x key ≡ true
     key_late notice key keyed before =
         let y = key_node notice keyed in

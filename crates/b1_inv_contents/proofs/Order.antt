@@ -1,16 +1,15 @@
 -- What stands before the front that is taken: entries for nobody alone, all removed.
-use Rattle.std.proofs.Common.{◌≡◌, ◌⊎◌, refl, sym, ap, subst, ◌∙◌, inl, inr, ℕ, ◌<◌, ◌==◌, Bool, true, false, not, ◌&&◌, ◌||◌, nat_lt, List, [], ◌∷◌, ◌++◌, Some}
+use Rattle.std.proofs.Common.{◌≡◌, ◌⊎◌, refl, sym, ap, subst, ◌∙◌, inl, inr, ℕ, ◌<◌, ◌==◌, true, false, not, ◌&&◌, nat_lt, List, [], ◌∷◌, ◌++◌, Some}
 use Rattle.std.proofs.lemmas.Bool.{and_parts, not-true, eqb-true, ltb-true, lt-ltb}
 use native.Mathlib.Omega.{arith}
 use Rattle.b1_model.specs.declared.naming.Key.{Key}
-use Rattle.b1_model.specs.declared.naming.Opening.{Opening}
 use Rattle.b1_model.specs.declared.naming.Wire.{Wire}
 use Rattle.b1_model.specs.declared.entries.Entry.{Entry}
 use Rattle.b1_model.specs.declared.records.Record.{Record}
 use Rattle.b1_model.specs.Names.{Node}
 use Rattle.b1_model.specs.Ledger.{is_before, is_below, Message, message, doomed_at}
 use Rattle.b1_model.specs.MachineParts.{PeerPart, State, is_staged, key_before}
-use Rattle.b1_model.specs.MachineReceive.{is_for_nobody, discards, cleared}
+use Rattle.b1_model.specs.MachineReceive.{is_for_nobody, discards}
 use Rattle.b1_step.specs.Rights.{Has}
 use Rattle.b1_step.specs.Ordered.{Ascending}
 use Rattle.b1_step.proofs.Lists.{has_append}
@@ -24,9 +23,11 @@ use Rattle.b1_inv_legal.specs.Fronts.{CanTake}
 
 -- ---- keys
 
+-- keys are ordered as their stamps and origins are
 pub before_is_below : (a b : Key) → is_before a.stamp a.origin b.stamp b.origin ≡ true → key_before a b ≡ true
 before_is_below a b is = sym (below_is_less a b) ∙ or_left (is_before a.stamp a.origin b.stamp b.origin) (((a.stamp == b.stamp) && (a.origin == b.origin)) && nat_lt a.index b.index) is
 
+-- a lower stamp is before a higher one
 pub lower_stamp : (a b : Key) → a.stamp < b.stamp → is_before a.stamp a.origin b.stamp b.origin ≡ true
 lower_stamp a b low = or_left (nat_lt a.stamp b.stamp) ((a.stamp == b.stamp) && nat_lt a.origin b.origin) (lt-ltb a.stamp b.stamp low)
 
@@ -83,6 +84,7 @@ module _ {s : State} {p : ℕ} {x : PeerPart} {f : Key × Entry} {rest : List (K
   pub removed_before : (g : Key × Entry) → Has (discards x) g → key_before g.0 f.0 ≡ true
   removed_before g there = split_least (discards x) f rest (subst Ascending in_two up) g there
 
+  -- what is removed is committed and for nobody
   pub removed_is : (g : Key × Entry) → Has (discards x) g → (is_staged g ≡ false) × (is_for_nobody x g.1 ≡ true)
   removed_is g there =
       let k = and_parts (not (is_staged g)) (is_for_nobody x g.1) (passes (λ z. not (is_staged z) && is_for_nobody x z.1) x.queue g there) in

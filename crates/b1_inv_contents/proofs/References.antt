@@ -1,5 +1,5 @@
 -- What the record says of a counted slot of a message that is taken: its node was destroyed before the send exactly where the record is dead.
-use Rattle.std.proofs.Common.{◌≡◌, ◌≢◌, ◌⊎◌, refl, sym, ap, subst, ◌∙◌, inl, inr, ℕ, zero, suc, ◌+◌, ◌<◌, ◌≤◌, ◌==◌, Bool, true, false, cond, ◌&&◌, nat_lt, List, [], ◌∷◌, ◌++◌, find, get_or, length, Option, Some, None}
+use Rattle.std.proofs.Common.{◌≡◌, ◌≢◌, ◌⊎◌, refl, sym, ap, subst, ◌∙◌, inl, inr, ℕ, zero, suc, ◌<◌, ◌≤◌, ◌==◌, Bool, true, false, cond, ◌&&◌, nat_lt, List, [], ◌∷◌, Option, Some, None}
 use Rattle.std.specs.Prelude.{slice_get}
 use Rattle.std.proofs.lemmas.Bool.{ltb-true, eqb-true, and_parts}
 use Rattle.std.proofs.lemmas.Option.{same_Some, slice_get_within}
@@ -8,8 +8,7 @@ use Rattle.b1_model.specs.declared.commands.Command.{Command}
 use Rattle.b1_model.specs.declared.naming.Key.{Key}
 use Rattle.b1_model.specs.declared.naming.NodeRef.{NodeRef}
 use Rattle.b1_model.specs.declared.naming.Opening.{Opening}
-use Rattle.b1_model.specs.declared.parts.NodeState.{NodeState}
-use Rattle.b1_model.specs.declared.parts.NodeState.TheVariants.{Dying, Destroyed}
+use Rattle.b1_model.specs.declared.parts.NodeState.TheVariants.{Destroyed}
 use Rattle.b1_model.specs.declared.parts.Slot.TheVariants as slot
 use Rattle.b1_model.specs.declared.entries.Entry.{Entry}
 use Rattle.b1_model.specs.declared.entries.Entry.TheVariants.{ForeignNotice}
@@ -20,7 +19,7 @@ use Rattle.b1_model.specs.Names.{Node}
 use Rattle.b1_model.specs.Ledger.{Message, message, is_before, is_late}
 use Rattle.b1_model.specs.MachineParts.{PeerPart, NodePart, DriverPart, HandleRecord, State, is_staged, is_data, carried, slots_of, is_live, is_dying, key_before, node_at, same_ref, no_record, record_of, record_or_none}
 use Rattle.b1_model.specs.MachineReceive.{discards, cleared}
-use Rattle.b1_model.specs.MachineEvents.{doomed_of, collected_of}
+use Rattle.b1_model.specs.MachineEvents.{doomed_of}
 use Rattle.b1_model.specs.MachineStep.{record_of_state}
 use Rattle.b1_step.specs.Rights.{Has}
 use Rattle.b1_step.specs.Ordered.{Rising}
@@ -33,7 +32,6 @@ use Rattle.b1_inv.specs.Sound.{IsSound}
 use Rattle.b1_ledger.proofs.Sequences.{or_true}
 use Rattle.b1_inv_record.specs.Epochs.{is_unstaging, ref_of}
 use Rattle.b1_inv_record.specs.Destructions.{doomed_key}
-use Rattle.b1_inv_record.specs.Holders.{slots_now}
 use Rattle.b1_inv_record.specs.Right.{IsRight}
 use Rattle.b1_inv_notices.proofs.Turns.{get_there}
 use Rattle.b1_inv_refs.proofs.Views.{times_cons}
@@ -191,6 +189,7 @@ module _ {o : Opening} {s : State} (sound : IsSound o s) (right : IsRight o s) {
         let removed = removed_if k i inside (before_is_below k f.0 (lower_stamp k f.0 (omega (arith, low, high)))) in
         let both : true ≡ false = sym staged ∙ (removed_is can (up_queue sound right can is_message m is_sent) (k, ForeignNotice node i) removed).0 in cc both
 
+    -- a record that isn't dead is of no node that was destroyed before the send
     pub undead_soon : ⊥
     undead_soon =
         let state = state_at sound right can is_message m is_sent y w n is at ∙ ended in
@@ -203,6 +202,7 @@ module _ {o : Opening} {s : State} (sound : IsSound o s) (right : IsRight o s) {
           | inr dying ↦ let both : true ≡ false = sym dying.0 ∙ ap (λ z. is_dying (node_at w z.serial).state) (record_node node x.handles) ∙ ap is_dying state in cc both
         ]
 
+  -- the node of a counted slot was destroyed before the send exactly where its record is dead
   pub attached_judged : late ≡ dead sound right can is_message m is_sent node
   attached_judged = either_is late (dead sound right can is_message m is_sent node) dead_late soon
     where

@@ -1,5 +1,5 @@
 -- Which records are dead once the entries for nobody are removed: those that were, and those whose notice was removed.
-use Rattle.std.proofs.Common.{◌≡◌, ◌⊎◌, refl, sym, ap, subst, ◌∙◌, inl, inr, ℕ, ◌==◌, ◌&&◌, nat_lt, Bool, true, false, cond, List, [], ◌∷◌, drop, fold, length, Option, Some, None}
+use Rattle.std.proofs.Common.{◌≡◌, ◌⊎◌, refl, sym, ap, subst, ◌∙◌, inl, inr, ℕ, ◌==◌, ◌&&◌, nat_lt, Bool, true, false, cond, List, [], ◌∷◌, drop, fold, length}
 use Rattle.std.proofs.lemmas.Bool.{and_parts, ltb-true}
 use native.Mathlib.Omega.{arith}
 use Rattle.b1_model.specs.declared.naming.Key.{Key}
@@ -80,6 +80,7 @@ all_dead_from ((k, e) ∷ es) x h there dead = elim (all_dead_from es (discarded
   ]
 ]
 
+-- a record that is dead behind the removals was dead, or its notice was removed
 pub cleared_dead : (x : PeerPart) (h : HandleRecord) → Has (cleared x).handles h → h.dead ≡ true → WasDead x.handles h ⊎ NoticeOf (discards x) h.node
 cleared_dead x h there dead = all_dead_from (discards x) (record x { queue = drop (length (discards x)) x.queue }) h there dead
 

@@ -36,7 +36,6 @@ use Rattle.b1_inv_tools.proofs.Leaves.{driver_cases, peer_cases}
 use Rattle.b1_inv_notices.proofs.Turns.{answered, took_leaves, parts, going_answer, get_there}
 use Rattle.b1_inv_notices.proofs.StampsLaw.{fixed_before}
 use Rattle.b1_inv_names.proofs.Numbers.{name_numbers, node_numbers}
-use Rattle.b1_inv_destroys.proofs.Recorded.{as_many}
 use Rattle.b1_inv_doomed.proofs.Indices.{position_is, index_at}
 use Rattle.b1_inv_doomed.proofs.CalmCalls.{NoStamp}
 use Rattle.b1_inv_doomed.proofs.Records.{calm_keys}
@@ -105,15 +104,20 @@ pub placed_open : (P : ℕ → ℕ → ℕ → Type 0) (doing : Option Doing) (s
 placed_open P None stamp i serial h is at = absurd (cc is)
 placed_open P (Some doing) stamp i serial h is at = h stamp i serial is at
 
+-- a node that the record destroys was made
+pub doomed_made : {o : Opening} {s : State} → IsSound o s → IsRight o s → (q serial : ℕ) (x : PeerPart) (key : Key) → IsPeer s q x → doomed_key o s (own_ref q serial) ≡ Some key → serial < length x.nodes
+doomed_made {o} {s} sound right q serial x key is has =
+    let name = name_in o.wires (record_of_state s) q serial (destructions_of o.wires (record_of_state s) q) key (destructions_made o.wires (record_of_state s) q _) has in
+    let many : length s.peers ≡ length s.drivers = sound.numbered.as_many_peers ∙ sym sound.numbered.as_many_drivers in
+    let d = get_there s.drivers q (let within = slice_get_within s.peers q x is in omega (arith, within, many)) in
+    let numbers = right.names.made.made q d.0 x d.1 is in
+    let long = as_long (add_new x.epoch (all_names o.wires (record_of_state s) q) (open_numbers d.0)) x.nodes (sym numbers) in
+    let within = slice_get_within (add_new x.epoch (all_names o.wires (record_of_state s) q) (open_numbers d.0)) serial name.0 (add_new_keeps x.epoch (all_names o.wires (record_of_state s) q) (open_numbers d.0) serial name.0 name.1) in
+    omega (arith, long, within)
+
 module _ {o : Opening} {s : State} {p : ℕ} {c : Option Command} {t : State} (sound : IsSound o s) (right : IsRight o s) (step : Step o s p c t) where
   pub made_before : (q serial : ℕ) (x : PeerPart) (key : Key) → IsPeer s q x → doomed_key o s (own_ref q serial) ≡ Some key → serial < length x.nodes
-  made_before q serial x key is has =
-      let name = name_in o.wires (record_of_state s) q serial (destructions_of o.wires (record_of_state s) q) key (destructions_made o.wires (record_of_state s) q _) has in
-      let d = get_there s.drivers q (let within = slice_get_within s.peers q x is in let many = as_many sound step in omega (arith, within, many)) in
-      let numbers = right.names.made.made q d.0 x d.1 is in
-      let long = as_long (add_new x.epoch (all_names o.wires (record_of_state s) q) (open_numbers d.0)) x.nodes (sym numbers) in
-      let within = slice_get_within (add_new x.epoch (all_names o.wires (record_of_state s) q) (open_numbers d.0)) serial name.0 (add_new_keeps x.epoch (all_names o.wires (record_of_state s) q) (open_numbers d.0) serial name.0 name.1) in
-      omega (arith, long, within)
+  made_before q serial x key is has = doomed_made sound right q serial x key is has
 
   -- a fixed stamp and the place of a doomed node, by the phase that goes on
   pub placed_before : (stamp i serial : ℕ) → WasPlaced (parts step).phase stamp i serial → (fixed_stamp step.driver ≡ Some stamp) × (slice_get (doomed_now step.driver) i ≡ Some serial)

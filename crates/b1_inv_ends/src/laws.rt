@@ -5,6 +5,7 @@ ghost use Rattle.b1_model.specs.Opening.{IsOpening};
 ghost use Rattle.b1_model.specs.MachineParts.{State};
 ghost use Rattle.b1_model.specs.MachineStep.{Step, opening_state};
 ghost use Rattle.b1_inv.specs.Sound.{IsSound};
+ghost use Rattle.b1_inv_ends.specs.Holders.{HoldersServed};
 ghost use Rattle.b1_inv_record.specs.Right.{DestructionsRight, IsRight};
 
 /// A step keeps all that is said of destructions and their notices: which nodes are destroyed, what open destructions
@@ -12,4 +13,10 @@ ghost use Rattle.b1_inv_record.specs.Right.{DestructionsRight, IsRight};
 pub fn destructions_stay_right()
     ensures opening_DestructionsRight { (o : Opening) → IsOpening o → DestructionsRight o (opening_state o) }
     ensures kept_DestructionsRight { (o : Opening) (s : State) (p : ℕ) (c : Option Command) (t : State) → IsSound o s → IsRight o s → Step o s p c t → DestructionsRight o t }
+{}
+
+/// Once all commits of a node's destruction are done, each holder of the node has its notice committed in its queue, or
+/// has taken it in the epoch of its part.
+pub fn holders_are_told()
+    ensures { (o : Opening) (s : State) → IsSound o s → IsRight o s → HoldersServed o s }
 {}

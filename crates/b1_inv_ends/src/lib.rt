@@ -3,4 +3,4 @@
 
 mod laws;
 
-pub use laws::destructions_stay_right;
+pub use laws::{destructions_stay_right, holders_are_told};

@@ -90,7 +90,7 @@ module _ {o : Opening} {s : State} {p : ℕ} {c : Option Command} {t : State} (s
       ∙ map_length (λ m. m.number) (old_names p)
 
   module _ (new : NewCall step) where
-    new_names : all_names o.wires (record_of_state t) p ≡ add_new (epoch_now s p) (old_names p) (carried_by new.call.command new.call.answer)
+    pub new_names : all_names o.wires (record_of_state t) p ≡ add_new (epoch_now s p) (old_names p) (carried_by new.call.command new.call.answer)
     new_names = ap (made_in 0 (wired o.wires p)) new.appends.here ∙ made_in-append 0 (wired o.wires p) (calls_of (record_of_state s) p) (new.call ∷ [])
 
     new_epoch : epoch_now t p ≡ next_epoch (epoch_now s p) new.call.answer

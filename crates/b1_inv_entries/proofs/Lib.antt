@@ -21,3 +21,8 @@ pub mod AboveTaken
 pub mod Named
 pub mod SentNames
 pub mod CalledKept
+pub mod Late
+pub mod TakenStays
+pub mod Taking
+pub mod Waiting
+pub mod NewSend

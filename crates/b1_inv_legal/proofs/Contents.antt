@@ -50,5 +50,6 @@ module _ {o : Opening} {s : State} (sound : IsSound o s) (right : IsRight o s) (
   entry_sent k (ForeignNotice node index) rest can = foreign_notice_sent sound right can k node index (front_queued can) can.committed (front_for_it can)
   entry_sent k (ReleaseNotice serial) rest can = tt
 
+-- whatever a peer takes next has what was sent, where its handles arrive so
 pub front_sent : {o : Opening} {s : State} → IsSound o s → IsRight o s → SlotsArrive o s → FrontIsSent o s
 front_sent sound right arrive p x f rest can = entry_sent sound right arrive f.0 f.1 rest can

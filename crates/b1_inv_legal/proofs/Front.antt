@@ -34,9 +34,11 @@ both_fail true b is fails = absurd (cc is)
 both_fail false b is fails = fails
 
 module _ {s : State} {p : ℕ} {x : PeerPart} {f : Key × Entry} {rest : List (Key × Entry)} (can : CanTake s p x f rest) where
+  -- the front stands in the queue
   pub front_queued : Has x.queue f
   front_queued = subst (λ l. Has l f) (sym (queue_parts x)) (has_right (discards x) (cleared x).queue f (subst (λ l. Has l f) (sym can.front) (inl refl)))
 
+  -- the front is not for nobody
   pub front_for_it : is_for_nobody x f.1 ≡ false
   front_for_it = both_fail (is_staged f) (is_for_nobody x f.1) can.committed (first_fails (λ g. not (is_staged g) && is_for_nobody x g.1) x.queue f rest (sym (at_cleared x).0 ∙ can.front))
 
@@ -78,8 +80,10 @@ discards_from : (es : List (Key × Entry)) (x : PeerPart) → NumbersFrom x.hand
 discards_from [] x = from_same x.handles
 discards_from (g ∷ es) x = from_both x.handles (discarded x g.1).handles (fold (λ z k. discarded z k.1) (discarded x g.1) es).handles (discard_from g.1 x) (discards_from es (discarded x g.1))
 
+-- each record behind the removals is an old one, with its number
 pub cleared_from : (x : PeerPart) → NumbersFrom x.handles (cleared x).handles
 cleared_from x = discards_from (discards x) (record x { queue = drop (length (discards x)) x.queue })
 
+-- the records behind the removals are numbered as before
 pub cleared_numbered : (x : PeerPart) → AreNumbered x.given x.handles → AreNumbered (cleared x).given (cleared x).handles
 cleared_numbered x all = at_discards AreNumbered (λ m. Unit {0}) numbers_closed (discards x) (record x { queue = drop (length (discards x)) x.queue }) all

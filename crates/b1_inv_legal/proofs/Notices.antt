@@ -59,6 +59,7 @@ ref_of_the_node : (y : Node) (z : Option Node) (node other : NodeRef) → ref_of
 ref_of_the_node y None node other of is also = absurd (cc is)
 ref_of_the_node y (Some w) node other of is also = sym (same_ref_is (ref_of w) other also) ∙ sym (same_ref_is (ref_of y) (ref_of w) is) ∙ of
 
+-- the node that has a reference
 pub mapped : (z : Option Node) (node : NodeRef) → option_map ref_of z ≡ Some node → (y : Node) × (z ≡ Some y) × (ref_of y ≡ node)
 mapped None node is = absurd (cc is)
 mapped (Some y) node is = (y, refl, same_Some (ref_of y) node is)
@@ -117,6 +118,7 @@ module _ {o : Opening} {s : State} (sound : IsSound o s) (right : IsRight o s) {
         let n = get_there x.nodes serial made_low in
         mapped (doomed_at o.wires r k) (own_ref p serial) (right.destructions.keys.node p serial x n.0 k can.is_peer n.1 (right.destructions.own.queued p index serial x k can.is_peer has even))
 
+    -- the number of a taken notice of an own node
     pub own_notice_sent : notice_number p known tab (doomed_at o.wires r k) ≡ Some (node_at (cleared x) serial).number
     own_notice_sent =
         let y = own_node_of in
@@ -153,6 +155,7 @@ module _ {o : Opening} {s : State} (sound : IsSound o s) (right : IsRight o s) {
         let n = get_there owner.0.nodes node.serial owner.2 in
         mapped (doomed_at o.wires r k) node (right.destructions.keys.node node.owner node.serial owner.0 n.0 k owner.1 n.1 (right.destructions.foreign.queued p index x k node can.is_peer has even))
 
+    -- the number of a taken notice of another peer's node
     pub foreign_notice_sent : notice_number p known tab (doomed_at o.wires r k) ≡ Some (unwrap_or (record_or_none node (cleared x).handles).number invalid)
     foreign_notice_sent =
         let y = foreign_node_of in

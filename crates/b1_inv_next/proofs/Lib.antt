@@ -7,3 +7,4 @@ pub mod Notices
 pub mod Nobody
 pub mod Fronts
 pub mod FrontNext
+pub mod Shown

@@ -51,11 +51,11 @@ ref_found None node is = absurd (cc is)
 ref_found (Some y) node is = (y, refl, same_Some (ref_of y) node is)
 
 -- a record is the first of its node
-found_record : (node : NodeRef) (found : Option HandleRecord) → (or_none node found).notice ≡ true → (h : HandleRecord) × (found ≡ Some h)
+pub found_record : (node : NodeRef) (found : Option HandleRecord) → (or_none node found).notice ≡ true → (h : HandleRecord) × (found ≡ Some h)
 found_record node None is = absurd (cc is)
 found_record node (Some h) is = (h, refl)
 
-has_record : (node : NodeRef) (hs : List HandleRecord) (h : HandleRecord) → record_of node hs ≡ Some h → Has hs h × (h.node ≡ node)
+pub has_record : (node : NodeRef) (hs : List HandleRecord) (h : HandleRecord) → record_of node hs ≡ Some h → Has hs h × (h.node ≡ node)
 has_record node [] h is = absurd (cc is)
 has_record node (g ∷ rest) h is = by (same_ref g.node node) refl is (has_record node rest h)
   where

@@ -3,5 +3,5 @@ use Rattle.b1_inv_legal.proofs.Kept.{legal_kept}
 use Rattle.b1_inv_contents.proofs.Arrive.{slots_arrive}
 use Rattle.b1_inv_contents.proofs.laws.right_fronts_keep_records_legal.Goals as goal
 
-pub returns-clause-kept_Legal : goal.returns-clause-kept_Legal
-returns-clause-kept_Legal c = λ o s p command t sound right next step. legal_kept sound right next (front_sent sound right (slots_arrive sound right)) step
+pub returns : goal.returns
+returns c o s p command t sound right next step = legal_kept sound right next (front_sent sound right (slots_arrive sound right)) step
