@@ -9,3 +9,4 @@ pub mod Collecting
 pub mod Begins
 pub mod Blocked
 pub mod CollectedKept
+pub mod Groups
