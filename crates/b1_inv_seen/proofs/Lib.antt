@@ -6,3 +6,7 @@ pub mod Lined
 pub mod SeenKept
 pub mod SeenBegins
 pub mod Collecting
+pub mod Begins
+pub mod Blocked
+pub mod CollectedKept
+pub mod Groups

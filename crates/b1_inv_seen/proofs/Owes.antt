@@ -23,7 +23,7 @@ use Rattle.b1_inv_refs.proofs.Owing.{turned_owed}
 use Rattle.b1_inv_cover.proofs.Came.{drop_clock}
 
 -- references of which some are to a node have one to it
-ref_there : (node : NodeRef) (refs : Refs) → 1 ≤ amount_in node refs → (r : NodeRef × ℕ) × Has refs r × (same_ref r.0 node ≡ true)
+pub ref_there : (node : NodeRef) (refs : Refs) → 1 ≤ amount_in node refs → (r : NodeRef × ℕ) × Has refs r × (same_ref r.0 node ≡ true)
 ref_there node [] none = absurd (omega (arith, none))
 ref_there node (r ∷ rest) some = by (same_ref r.0 node) refl (λ more. ref_there node rest more)
   where

@@ -92,7 +92,7 @@ module _ {o : Opening} {s : State} {p : ℕ} {c : Option Command} {t : State} (s
     receives : going_action step ≡ act.Recv
     receives = (receipt_taken step new key got).0
 
-    at_own : step.at ≡ p
+    pub at_own : step.at ≡ p
     at_own = sym (parts step).is_at ∙ ap (peer_of step.driver.me) receives ∙ sound.numbered.drivers p step.driver step.is_driver
 
     longer : calls_len (record_of_state t) p ≡ suc (calls_len (record_of_state s) p)
@@ -105,7 +105,7 @@ module _ {o : Opening} {s : State} {p : ℕ} {c : Option Command} {t : State} (s
       | inr there ↦ absurd (there.0 (sym at_own))
     ]
 
-    own_peer : IsPeer s p step.peer
+    pub own_peer : IsPeer s p step.peer
     own_peer = subst (λ r. IsPeer s r step.peer) at_own step.is_peer
 
     held_of_end : (l : Line) (n : Node) → Has (end_table o s p).lines l → l.node ≡ Some n → 1 ≤ held_in (ref_of n) step.peer.handles
