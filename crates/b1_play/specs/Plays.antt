@@ -1,6 +1,8 @@
 -- What the play of a script comes to.
 use Rattle.std.specs.Prelude.{◌≡◌, ℕ, List, Option, false}
 use Rattle.b1_model.specs.declared.records.Record.{Record}
+use Rattle.b1_model.specs.Legal.{Legal, Whole}
+use Rattle.b1_model.specs.Script as follows
 use Rattle.b1_schedule.specs.Shortage.{shortage_of}
 use Rattle.b1_script.specs.declared.script.Script.{Script}
 use Rattle.b1_schedule.specs.Schedule.{Turning, Round, IsPlay, IsStall}
@@ -26,6 +28,17 @@ pub record Begun (s : Script) (b : Bus) : Type 0 where
 abbrev pub PlaysScript : Script → Played → Type 0
 PlaysScript s (Done r) = IsPlay s.opening s.commands s.turns r
 PlaysScript s (Stalled waiting reached) = IsStall s.opening s.commands s.turns waiting reached
+
+-- the record of a play that ended: sends and destructions have one order, each peer received a prefix of what it accepted, as it was sent, nothing is left to receive, and each peer's calls are its commands
+pub record IsDone (s : Script) (r : Record) : Type 0 where
+  pub legal : Legal s.opening r
+  pub whole : Whole s.opening r
+  pub script : follows.Script s.opening s.commands r
+
+-- what is promised of a play: all that of its record; where it stalls, the record that was reached is legal
+abbrev pub KeepsPromises : Script → Played → Type 0
+KeepsPromises s (Done r) = IsDone s r
+KeepsPromises s (Stalled waiting reached) = Legal s.opening reached
 
 -- a stall with its record, which shows no want of memory
 abbrev pub StallShown : Record → List ℕ → Played → Type 0

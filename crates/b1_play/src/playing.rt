@@ -2,7 +2,7 @@ ghost use Rattle.std.specs.Prelude.{◌≡◌, ◌<◌, [], length, IfOk, OnOk};
 ghost use Rattle.std.specs.List.{All};
 ghost use Rattle.b1_model.specs.Opening.{IsOpening};
 ghost use Rattle.b1_play.specs.Runs.{IsGood};
-ghost use Rattle.b1_play.specs.Plays.{Begun, PlaysScript, StallShown, TurnsTo};
+ghost use Rattle.b1_play.specs.Plays.{Begun, KeepsPromises, PlaysScript, StallShown, TurnsTo};
 
 use crate::copying::copy_lists;
 use crate::drain::drain_all;
@@ -11,6 +11,8 @@ use crate::shortage::has_shortage;
 use b1_core::Core;
 use b1_law::every_reached_state_is_sound;
 use b1_model::{Nums32, Record};
+use b1_play_commands::what_is_played_is_scripted;
+use b1_play_legal::plays_are_legal;
 use b1_pool::{ListPool, PoolKind};
 use b1_queue::{PlainQueue, QueueKind};
 use b1_script::Script;
@@ -25,9 +27,27 @@ pub enum Played {
     Stalled { waiting: Nums32, reached: Record },
 }
 
-/// Plays a script: its turns, then rounds, then the drain. An error is want of memory, also where a play stalls after a SEND
-/// that was refused for memory.
+/// Plays a script: its turns, then rounds, then the drain. What ends is a legal and whole record that has the commands of
+/// the script, and what stalls has a legal one. An error is want of memory, also where a play stalls after a SEND that was
+/// refused for memory.
 pub fn play_script<Q: QueueKind, P: PoolKind>(
+    alloc: Global,
+    script: &Script,
+) -> Result<Played, AllocError>
+    requires opening { IsOpening script.now.opening }
+    requires lists { length script.now.commands ≡ length script.now.opening.peers }
+    requires turns { All (λ p. p < length script.now.opening.peers) script.now.turns }
+    ensures plays { IfOk result (λ played. PlaysScript script.now played) }
+    ensures promises { IfOk result (λ played. KeepsPromises script.now played) }
+{
+    every_reached_state_is_sound();
+    what_is_played_is_scripted();
+    plays_are_legal();
+    play_on::<Q, P>(alloc, script)
+}
+
+// The same, as the machine plays.
+fn play_on<Q: QueueKind, P: PoolKind>(
     alloc: Global,
     script: &Script,
 ) -> Result<Played, AllocError>
@@ -97,7 +117,8 @@ pub fn play(alloc: Global, script: &Script) -> Result<Played, AllocError>
     requires opening { IsOpening script.now.opening }
     requires lists { length script.now.commands ≡ length script.now.opening.peers }
     requires turns { All (λ p. p < length script.now.opening.peers) script.now.turns }
-    ensures { IfOk result (λ played. PlaysScript script.now played) }
+    ensures plays { IfOk result (λ played. PlaysScript script.now played) }
+    ensures promises { IfOk result (λ played. KeepsPromises script.now played) }
 {
     play_script::<PlainQueue, ListPool>(alloc, script)
 }

@@ -89,7 +89,7 @@ module _ (o : Opening) (lists : List (List Command)) (turns : List ℕ) (m : Sho
 -- ---- what is played, and what stalls
 
 module _ (o : Opening) (lists : List (List Command)) (turns : List ℕ) (sound : (s : State) → Reached o s → IsSound o s) where
-  came_to : (m : Shortage) (count : ℕ) (end : Playing) → moves o lists m count (start_of o turns) ≡ end → Plays o lists end
+  pub came_to : (m : Shortage) (count : ℕ) (end : Playing) → moves o lists m count (start_of o turns) ≡ end → Plays o lists end
   came_to m count end is = subst (Plays o lists) is (plays o lists m sound turns count)
 
   pub played_follows : (r : Record) → IsPlay o lists turns r → Script o lists r

@@ -1,21 +1,28 @@
-use Rattle.std.proofs.Common.{sym, ◌∙◌, subst}
-use Rattle.b1_schedule.specs.Schedule.{IsPlay}
-use Rattle.b1_play.specs.Rounds.{Settles}
-use Rattle.b1_play.proofs.Ended.{all_ended}
-use Rattle.b1_play.proofs.Scripts.{done, stall_plays, all_closed}
+use Rattle.std.proofs.Common.{Ok, Err, Result}
+use Rattle.std.specs.Prelude.{IfOk}
+use Rattle.b1_play.specs.Plays.{KeepsPromises, PlaysScript}
+use Rattle.b1_play.specs.declared.playing.Played.{Played}
+use Rattle.b1_play.specs.declared.playing.Played.TheVariants.{Done, Stalled}
+use Rattle.b1_script.specs.declared.script.Script.{Script}
 use Rattle.b1_play.proofs.playing.play_script.Goals as goal
 
-pub returns-then-not-nobody_waits : goal.returns-then-not-nobody_waits
-returns-then-not-nobody_waits g c = stall_plays c.every_reached_state_is_sound.ensures.reached c.args.script.now c.in_ok-core.core c.play_rounds.new.core c.in_ok-core.ensures c.in_ok-waiting.waiting.items (c.nobody_waits.ensures.some c.if-not-nobody_waits.true) c.in_ok-waiting.ensures c.finish.result c.finish.ensures c.stall.result c.stall.ensures
+-- what holds of each thing that was played holds of the result
+each : {T E : Type 0} (P Q : T → Type 0) → ((t : T) → P t → Q t) → (r : Result T E) → IfOk r P → IfOk r Q
+each P Q h (Ok t) is = h t is
+each P Q h (Err e) is = tt
 
-pub drain_all-requires-clause-ended : goal.drain_all-requires-clause-ended
-drain_all-requires-clause-ended g c = all_ended c.play_rounds.new.core (sym c.in_ok-waiting.ensures.waiting_is ∙ c.nobody_waits.ensures.nobody c.if-not-nobody_waits.false)
-
-pub drain_all-requires-clause-closed : goal.drain_all-requires-clause-closed
-drain_all-requires-clause-closed g c = all_closed c.play_rounds.new.core c.in_ok-waiting.ensures.none_open
-
-pub returns : goal.returns
-returns g c =
-    subst (λ r. IsPlay c.args.script.now.opening c.args.script.now.commands c.args.script.now.turns r) (sym c.finish-2.ensures)
-    (done c.every_reached_state_is_sound.ensures.reached c.args.script.now c.in_ok-core.core c.play_rounds.new.core c.in_ok-core.ensures c.drain_all.new.core
-    (subst (λ waiting. Settles c.in_ok-core.core c.play_rounds.new.core waiting) (c.nobody_waits.ensures.nobody c.if-not-nobody_waits.false) c.in_ok-waiting.ensures) c.in_ok-drain_all.ensures)
+pub returns-clause-promises : goal.returns-clause-promises
+returns-clause-promises g c =
+    each (PlaysScript c.args.script.now) (KeepsPromises c.args.script.now) promised c.play_on.result c.play_on.ensures
+  where
+    promised : (played : Played) → PlaysScript c.args.script.now played → KeepsPromises c.args.script.now played
+    promised (Done r) play =
+        let s = c.args.script.now in
+        record {
+          legal = c.plays_are_legal.ensures.legal s.opening s.commands s.turns r c.requires.opening play;
+          whole = c.plays_are_legal.ensures.whole s.opening s.commands s.turns r c.requires.opening play;
+          script = c.what_is_played_is_scripted.ensures.played s.opening s.commands s.turns r c.requires.opening (λ t reached. c.every_reached_state_is_sound.ensures.reached s.opening t c.requires.opening reached) play;
+        }
+    promised (Stalled waiting reached) stall =
+        let s = c.args.script.now in
+        c.plays_are_legal.ensures.stalled s.opening s.commands s.turns waiting reached c.requires.opening stall
