@@ -30,7 +30,9 @@ use Rattle.b1_ledger.proofs.Sequences.{and_of, or_left, or_right}
 use Rattle.b1_inv_record.specs.Destructions.{own_ref, doomed_key, awaits_commit}
 use Rattle.b1_inv_record.specs.Epochs.{first_now, first_done, ref_of}
 use Rattle.b1_inv_record.specs.Right.{IsRight}
-use Rattle.b1_inv_peer.proofs.Clearing.{without_front, held_discarded}
+use Rattle.b1_inv_peer.proofs.Clearing.{without_front}
+use Rattle.b1_model.specs.MachineTables.{foreign, made_dead}
+use Rattle.b1_inv_refs.proofs.Views.{held_same, held_unexpected}
 use Rattle.b1_inv_taken.proofs.Clears.{Queue, is_removed, Settled, cleared_by}
 use Rattle.b1_inv_legal.specs.Fronts.{CanTake, taken_answer, FrontIsNext}
 use Rattle.b1_inv_next.specs.Queued.{Queued}
@@ -52,6 +54,13 @@ not_above a b c is low = not_of_below c a (λ other. by (below_is a b is) other)
   where
     by : Below a b → Below c a → ⊥
     by one two = grind (arith, one, two, low)
+
+-- a removal leaves how often a node is held
+held_discarded : (node : NodeRef) (x : PeerPart) (e : Entry) → Rising x.handles → (record_or_none node (discarded x e).handles).held ≡ (record_or_none node x.handles).held
+held_discarded node x (Message origin user index serial offset len nodes slots handles payload) up = held_unexpected node (foreign x.me nodes) x.handles up
+held_discarded node x (OwnNotice serial index) up = refl
+held_discarded node x (ForeignNotice other index) up = held_same made_dead (λ h. refl) (λ h. refl) other node x.handles up
+held_discarded node x (ReleaseNotice serial) up = refl
 
 module _ {o : Opening} {s : State} (sound : IsSound o s) (right : IsRight o s) (p : ℕ) (d : DriverPart) (x : PeerPart) (is_driver : IsDriver s p d) (is_peer : IsPeer s p x) (idle : d.doing ≡ None) where
   abbrev r : Record

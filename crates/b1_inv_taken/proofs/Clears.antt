@@ -14,7 +14,7 @@ use Rattle.b1_model.specs.MachineReceive.{is_for_nobody, discarded, cleared, tak
 use Rattle.b1_step.specs.Rights.{Has}
 use Rattle.b1_step.specs.Ordered.{Rising}
 use Rattle.b1_step.proofs.Lookups.{rising_changed}
-use Rattle.b1_inv_peer.proofs.Clearing.{without_front, queue_is, cleared_one, cleared_none, cleared_empty}
+use Rattle.b1_inv_peer.proofs.Clearing.{without_front, cleared_one, cleared_none, cleared_empty}
 use Rattle.b1_inv_peer.proofs.RecordFields.{rising_unexpected}
 
 abbrev pub Queue : Type 0
@@ -40,6 +40,13 @@ rising_discarded x (OwnNotice serial index) up = up
 rising_discarded x (ForeignNotice node index) up = rising_changed node made_dead (λ h. refl) x.handles up
 rising_discarded x (ReleaseNotice serial) up = up
 
+-- a removal leaves the rest of the queue as it is
+pub queue_left : (x : PeerPart) (e : Entry) → (discarded x e).queue ≡ x.queue
+queue_left x (Message origin user index serial offset len nodes slots handles payload) = refl
+queue_left x (OwnNotice serial index) = refl
+queue_left x (ForeignNotice node index) = refl
+queue_left x (ReleaseNotice serial) = refl
+
 module _ (P : PeerPart → Type 0)
     (stays : (x : PeerPart) (f : Key × Entry) (rest : Queue) → Rising x.handles → P x → x.queue ≡ f ∷ rest → is_staged f ≡ false → is_for_nobody x f.1 ≡ true → P (without_front x f rest)) where
   cleared_from : (queue : Queue) (x : PeerPart) → x.queue ≡ queue → Rising x.handles → P x → P (cleared x) × Settled (cleared x) × Rising (cleared x).handles
@@ -52,7 +59,7 @@ module _ (P : PeerPart → Type 0)
       by true passes further =
           let parts = and_parts (not (is_staged f)) (is_for_nobody x f.1) passes in
           subst (λ z. P z × Settled z × Rising z.handles) (sym (cleared_one x f rest up is passes))
-          (further (without_front x f rest) (queue_is x f rest up is passes) (rising_discarded (record x { queue = rest }) f.1 up) (stays x f rest up holds is (not-true (is_staged f) parts.0) parts.1))
+          (further (without_front x f rest) (queue_left (record x { queue = rest }) f.1) (rising_discarded (record x { queue = rest }) f.1 up) (stays x f rest up holds is (not-true (is_staged f) parts.0) parts.1))
       by false fails further =
           let same = cleared_none x f rest up is fails in
           subst (λ z. P z × Settled z × Rising z.handles) (sym same)

@@ -5,7 +5,6 @@ use Rattle.b1_model.specs.declared.commands.Command.{Command}
 use Rattle.b1_model.specs.declared.commands.Command.TheVariants as cmd
 use Rattle.b1_model.specs.declared.naming.Opening.{Opening}
 use Rattle.b1_model.specs.declared.records.Record.{Record}
-use Rattle.b1_model.specs.Legal.{Legal, Whole}
 use Rattle.b1_play_report.specs.Limits.{IsNotLimit, NoLimits}
 use Rattle.b1_records.specs.Spelling.{IsWithin}
 use Rattle.b1_schedule.specs.Schedule.{IsPlay}
@@ -44,15 +43,9 @@ Says Q P = (o : Opening) (lists : List (List Command)) (r : Record) → IsPlayab
 abbrev IsSerially : Opening → List (List Command) → Record → Type 0
 IsSerially o lists r = r ≡ serial o lists (shortage_of r)
 
-module _ (within : Says (λ o lists r. IsWithinQuotas r) IsSerially) (light : Says (λ o lists r. IsLight o lists) IsSerially)
-    (legal : Says MeetsNoQuota (λ o lists r. Legal o r)) (whole : Says MeetsNoQuota (λ o lists r. Whole o r)) where
+module _ (within : Says (λ o lists r. IsWithinQuotas r) IsSerially) (light : Says (λ o lists r. IsLight o lists) IsSerially) where
   pub serial_record : (s : Script) (r : Record) → IsPlay s.opening s.commands s.turns r → IsSmall s → MeetsNoQuota s.opening s.commands r → IsSerial s r
-  serial_record s r play is meets =
-      record {
-        serial_is = serially meets;
-        legal = legal s.opening s.commands r is.playable meets plain;
-        whole = whole s.opening s.commands r is.playable meets plain;
-      }
+  serial_record s r play is meets = serially meets
     where
       plain : IsPlay s.opening s.commands [] r
       plain = subst (λ turns. IsPlay s.opening s.commands turns r) is.turns play

@@ -1,6 +1,6 @@
 use Rattle.std.proofs.Common.{subst}
 use Rattle.b1_schedule.specs.Schedule.{IsPlay, IsStall}
-use Rattle.b1_play.specs.Plays.{PlaysScript}
+use Rattle.b1_play.specs.Plays.{IsDone, KeepsPromises, PlaysScript}
 use Rattle.b1_shell.proofs.Plays.{no_limits, serial_record}
 use Rattle.b1_shell.proofs.answer.answer_script.Goals as goal
 
@@ -8,27 +8,30 @@ pub print-requires : goal.print-requires
 print-requires c =
     let s = c.args.script.now in
     let r = c.in-Done.outcome in
-    let play : IsPlay s.opening s.commands s.turns r = subst (PlaysScript s) c.in-Done.is c.in_ok-outcome.ensures in
+    let play : IsPlay s.opening s.commands s.turns r = subst (PlaysScript s) c.in-Done.is c.in_ok-outcome.ensures.plays in
     c.what_is_played_is_spelled.ensures.played s.opening s.commands s.turns r c.requires.opening (no_limits s.commands c.requires.commands) play
 
 pub stall_report-requires : goal.stall_report-requires
 stall_report-requires c =
     let s = c.args.script.now in
     let r = c.in-Stalled.reached in
-    let stall : IsStall s.opening s.commands s.turns c.in-Stalled.waiting r = subst (PlaysScript s) c.in-Stalled.is c.in_ok-outcome.ensures in
+    let stall : IsStall s.opening s.commands s.turns c.in-Stalled.waiting r = subst (PlaysScript s) c.in-Stalled.is c.in_ok-outcome.ensures.plays in
     c.what_is_played_is_spelled.ensures.stalled s.opening s.commands s.turns c.in-Stalled.waiting r c.requires.opening (no_limits s.commands c.requires.commands) stall
 
 pub returns-in_ok-print-in-Done : goal.returns-in_ok-print-in-Done
 returns-in_ok-print-in-Done c =
     let s = c.args.script.now in
     let r = c.in-Done.outcome in
-    let play : IsPlay s.opening s.commands s.turns r = subst (PlaysScript s) c.in-Done.is c.in_ok-outcome.ensures in
+    let play : IsPlay s.opening s.commands s.turns r = subst (PlaysScript s) c.in-Done.is c.in_ok-outcome.ensures.plays in
+    let kept : IsDone s r = subst (KeepsPromises s) c.in-Done.is c.in_ok-outcome.ensures.promises in
     record {
       outcome = r;
       played = play;
       drained = c.a_finished_play_is_drained.ensures s.opening s.commands s.turns r c.requires.opening play;
-      script = c.what_is_played_is_scripted.ensures.played s.opening s.commands s.turns r c.requires.opening (λ t reached. c.every_reached_state_is_sound.ensures.reached s.opening t c.requires.opening reached) play;
-      small = serial_record c.small_scripts_run_serially.ensures.within c.small_scripts_run_serially.ensures.light c.small_records_are_legal.ensures.legal c.small_records_are_legal.ensures.whole s r play;
+      legal = kept.legal;
+      whole = kept.whole;
+      script = kept.script;
+      small = serial_record c.small_scripts_run_serially.ensures.within c.small_scripts_run_serially.ensures.light s r play;
       text_is = c.in_ok-print-in-Done.ensures.text;
       again = c.in_ok-print-in-Done.ensures.report;
     }
@@ -37,12 +40,13 @@ pub returns-in_ok-stall_report-in-Stalled : goal.returns-in_ok-stall_report-in-S
 returns-in_ok-stall_report-in-Stalled c =
     let s = c.args.script.now in
     let r = c.in-Stalled.reached in
-    let stall : IsStall s.opening s.commands s.turns c.in-Stalled.waiting r = subst (PlaysScript s) c.in-Stalled.is c.in_ok-outcome.ensures in
+    let stall : IsStall s.opening s.commands s.turns c.in-Stalled.waiting r = subst (PlaysScript s) c.in-Stalled.is c.in_ok-outcome.ensures.plays in
     record {
       waiting = c.in-Stalled.waiting;
       outcome = r;
       stalls = stall;
       stuck = c.a_stalled_play_is_stuck.ensures s.opening s.commands s.turns c.in-Stalled.waiting r c.requires.opening stall;
+      legal = subst (KeepsPromises s) c.in-Stalled.is c.in_ok-outcome.ensures.promises;
       script = c.what_is_played_is_scripted.ensures.stalled s.opening s.commands s.turns c.in-Stalled.waiting r c.requires.opening (λ t reached. c.every_reached_state_is_sound.ensures.reached s.opening t c.requires.opening reached) stall;
       text_is = c.in_ok-stall_report-in-Stalled.ensures;
     }
