@@ -5,7 +5,7 @@ ghost use Rattle.b1_model.specs.Opening.{IsOpening};
 ghost use Rattle.b1_model.specs.MachineParts.{State};
 ghost use Rattle.b1_model.specs.MachineStep.{Step, opening_state};
 ghost use Rattle.b1_inv.specs.Sound.{IsSound};
-ghost use Rattle.b1_inv_ends.specs.Notices.{OneNotice};
+ghost use Rattle.b1_inv_ends.specs.Notices.{NoticesOnce, OneNotice};
 ghost use Rattle.b1_inv_ends.specs.Holders.{HoldersServed, LateByAttach};
 ghost use Rattle.b1_inv_record.specs.Right.{DestructionsRight, IsRight};
 
@@ -28,8 +28,9 @@ pub fn late_holders_are_visited()
     ensures { (o : Opening) (s : State) (p : ℕ) (c : Option Command) (t : State) → IsSound o s → IsRight o s → (step : Step o s p c t) → LateByAttach step }
 {}
 
-/// A destroy notice comes to a queue that has none of its node only while the node isn't destroyed; it leaves only behind
-/// the node's destruction, or by a flush of its queue; and a destroyed node stays destroyed.
+/// No queue has two destroy notices of one node. One comes to a queue that has none of its node only while the node isn't
+/// destroyed; it leaves only behind the node's destruction, or by a flush of its queue; and a destroyed node stays so.
 pub fn each_notice_comes_once()
-    ensures { (o : Opening) (s : State) (p : ℕ) (c : Option Command) (t : State) → IsSound o s → IsRight o s → (step : Step o s p c t) → OneNotice step }
+    ensures once { (o : Opening) (s : State) → IsSound o s → IsRight o s → NoticesOnce s }
+    ensures steps { (o : Opening) (s : State) (p : ℕ) (c : Option Command) (t : State) → IsSound o s → IsRight o s → (step : Step o s p c t) → OneNotice step }
 {}
