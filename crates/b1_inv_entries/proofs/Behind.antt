@@ -51,7 +51,7 @@ stamped_stages : (phase : Phase) (stamp : ℕ) → stamp_of_phase phase ≡ Some
 stamped_stages (Unstaging begun places refused place) stamp is = absurd (cc is)
 stamped_stages phase stamp is = refl
 
-message_no_own : (e : Entry) → is_data e ≡ true → is_own_notice e ≡ false
+pub message_no_own : (e : Entry) → is_data e ≡ true → is_own_notice e ≡ false
 message_no_own (Message origin user index serial offset len nodes slots handles payload) is = refl
 message_no_own (OwnNotice serial index) is = absurd (cc is)
 message_no_own (ForeignNotice node index) is = refl

@@ -32,7 +32,7 @@ module _ (command : Command) where
   turned_calls d (Goes phase) = goes_calls (is_done d.owed d.told phase) (answer_of command phase) d phase refl
   turned_calls d (Ends got) = append-nil (d.calls ++ call_of command got)
 
-records_length : (xs : List PeerPart) (ds : List DriverPart) → length xs ≡ length ds → length (peer_records xs ds) ≡ length xs
+pub records_length : (xs : List PeerPart) (ds : List DriverPart) → length xs ≡ length ds → length (peer_records xs ds) ≡ length xs
 records_length [] ds same = refl
 records_length (x ∷ xs) [] same = absurd (omega (arith, same))
 records_length (x ∷ xs) (d ∷ ds) same = let rest = records_length xs ds (omega (arith, same)) in omega (arith, rest)

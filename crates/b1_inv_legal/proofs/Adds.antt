@@ -38,6 +38,7 @@ module _ (Goal : Answer → Type 0) (owed : List OwedDrop) (shut : Bool) (x : Pe
   the_same : (fixed : Option Answer) (got this : Answer) → fixed ≡ Some got → fixed ≡ Some this → Goal this → Goal got
   the_same fixed got this is also goal = subst Goal (same_Some this got (sym also ∙ is)) goal
 
+  -- what follows of the answer that an event fixed
   pub follows_fixed : (phase : Phase) (fixed : Option Answer) (got : Answer) → fixed ≡ Some got → Follows Goal owed shut x command phase → MayFix owed shut x command phase fixed → Goal got
   follows_fixed Starting fixed got is follows (inl plain) = plain_if Starting fixed got is follows plain
   follows_fixed Starting fixed got is follows (inr taken) = the_same fixed got (recv_answer (received x)) is taken.3 (follows.taken refl taken.0 taken.1 taken.2)
@@ -63,9 +64,11 @@ module _ {o : Opening} {s : State} {p : ℕ} {c : Option Command} {t : State} (s
   abbrev pub StaysLegal : Answer → Type 0
   StaysLegal got = Appends (record_of_state s) (record_of_state t) p (call_with sound step got) → Legal o (record_of_state t)
 
+  -- a plain answer keeps the record legal
   pub plain_stays : (got : Answer) → IsPlain got → StaysLegal got
   plain_stays got plain more = legal_plain o (record_of_state s) (record_of_state t) p (call_with sound step got) more legal plain.0 plain.1
 
+  -- a step keeps the record legal, where each kind of answer does
   pub step_legal : Follows StaysLegal step.driver.owed step.driver.shut step.peer (parts step).command (parts step).phase → Legal o (record_of_state t)
   step_legal follows = legal_by sound step legal (λ got none fixed more.
       follows_fixed StaysLegal step.driver.owed step.driver.shut step.peer (parts step).command (parts step).phase (now_fixed sound step) got fixed follows

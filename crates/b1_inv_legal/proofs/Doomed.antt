@@ -38,6 +38,7 @@ use Rattle.b1_inv_legal.proofs.Named.{serial_is, found_name}
 same_parts : (y w : Node) → same_node y w ≡ true → (y.owner ≡ w.owner) × (y.serial ≡ w.serial)
 same_parts y w is = let k = and_parts (y.owner == w.owner) (y.serial == w.serial) is in (eqb-true y.owner w.owner k.0, eqb-true y.serial w.serial k.1)
 
+-- what passes for a node has its owner and its serial
 pub the_node : (y : Node) (z : Option Node) → is_the_node y z ≡ true → (w : Node) × (z ≡ Some w) × (y.owner ≡ w.owner) × (y.serial ≡ w.serial)
 the_node y None is = absurd (cc is)
 the_node y (Some w) is = let k = same_parts y w is in (w, refl, k.0, k.1)

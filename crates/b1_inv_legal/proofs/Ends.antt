@@ -45,6 +45,7 @@ use Rattle.b1_inv_legal.proofs.Lines.{line_number_of}
 use Rattle.b1_inv_legal.proofs.Tables.{is_entry_of, carried_has_line}
 use Rattle.b1_inv_legal.proofs.Doomed.{the_node, named_ends, flushed_ends}
 
+-- the stamp of a receipt counts for later calls
 pub got_seen : (a : Answer) (key : Key) → got_key a ≡ Some key → seen_stamp a ≡ Some key.stamp
 got_seen (ans.Got (rec.Message k number offset handles payload)) key is = ap (λ z. elim z [ None ↦ None | Some m ↦ Some m.stamp ]) is
 got_seen (ans.Got (rec.Destroyed k number)) key is = ap (λ z. elim z [ None ↦ None | Some m ↦ Some m.stamp ]) is
@@ -174,6 +175,7 @@ module _ {o : Opening} {s : State} (sound : IsSound o s) (right : IsRight o s) (
             by_line q k c key y at (message_got c.answer key got) gone
             (seen_behind q k y (carried_has_line o r right.legal q k c key a.0 a.1 a.2 a.3 m at a.4 is j y there soon (λ same. apart (sym same ∙ gone.0))))
 
+    -- the record with the destruction is legal
     pub doomed_legal : Legal o t
     doomed_legal =
         legal_doomed o r t p one more right.legal stamp (stamp_is command stamp)

@@ -76,6 +76,7 @@ module _ (command : Command) where
 
 -- ---- a step
 
+-- there are as many recorded peers as parts
 pub records_length : (xs : List PeerPart) (ds : List DriverPart) → length xs ≡ length ds → length (peer_records xs ds) ≡ length xs
 records_length [] ds same = refl
 records_length (x ∷ xs) [] same = absurd (omega (arith, same))
@@ -99,12 +100,15 @@ module _ {o : Opening} {s : State} {p : ℕ} {c : Option Command} {t : State} (s
   as_many_after : length t.peers ≡ length t.drivers
   as_many_after = as_many_peers step ∙ as_many sound step ∙ sym (as_many_drivers step)
 
+  -- the record has as many peers after the step
   pub same_length : length (record_of_state t).peers ≡ length (record_of_state s).peers
   same_length = records_length t.peers t.drivers as_many_after ∙ as_many_peers step ∙ sym (records_length s.peers s.drivers (as_many sound step))
 
+  -- the calls of other peers stay
   pub other_calls : (q : ℕ) → q ≢ p → calls_of (record_of_state t) q ≡ calls_of (record_of_state s) q
   other_calls q apart = recorded t q as_many_after ∙ ap calls_by (other_driver step q apart) ∙ sym (recorded s q (as_many sound step))
 
+  -- the recorded calls of the step's driver, before it
   pub own_before : calls_of (record_of_state s) p ≡ driver_calls step.driver
   own_before = recorded s p (as_many sound step) ∙ ap calls_by step.is_driver
 

@@ -12,6 +12,7 @@ use Rattle.b1_inv.specs.Sound.{IsSound}
 use Rattle.b1_inv_notices.proofs.Turns.{doing_in, opened, parts}
 
 module _ {o : Opening} {s : State} {p : ℕ} {c : Option Command} {t : State} (sound : IsSound o s) (step : Step o s p c t) where
+  -- the driver's part has the driver's number
   pub me_is : step.driver.me ≡ p
   me_is = sound.numbered.drivers p step.driver step.is_driver
 

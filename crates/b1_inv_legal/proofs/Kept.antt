@@ -90,6 +90,7 @@ module _ {o : Opening} {s : State} {p : ℕ} {c : Option Command} {t : State} (s
       doomed_legal sound right p step.driver step.peer (parts step).command d step.is_driver (at_own sound step (Dooming d) dooming none refl)
       (was_open sound step (Dooming d) dooming (λ e. cc e)) late (record_of_state t) more
 
+  -- the record after the step is legal
   pub legal_kept : Legal o (record_of_state t)
   legal_kept = step_legal sound step right.legal (record {
     plain = plain_stays sound step right.legal;
@@ -107,6 +108,7 @@ none_called o q = recorded (opening_state o) q (let k = opening_numbered o in k.
     by None is = refl
     by (Some d) is = ap driver_calls (opening_idle o q d is)
 
+-- every bus begins with a legal record
 pub legal_begins : (o : Opening) → Legal o (record_of_state (opening_state o))
 legal_begins o = record {
   keys = λ p k. record {

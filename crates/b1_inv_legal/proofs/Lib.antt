@@ -11,3 +11,6 @@ pub mod Tables
 pub mod Doomed
 pub mod Ends
 pub mod Kept
+pub mod Front
+pub mod Notices
+pub mod Contents

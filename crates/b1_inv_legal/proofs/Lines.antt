@@ -47,6 +47,7 @@ has_line_of n (m ∷ ls) h = go (n == m.number) refl (has_line_of n ls) h
     go true is ih h = (m, inl refl, sym (eqb-true n m.number is))
     go false is ih h = let k = ih h in (k.0, inr k.1, k.2)
 
+-- the line that gives a node its number
 pub line_number_of : (x : Node) (ls : List Line) (n : ℕ) → line_number x ls ≡ Some n → (l : Line) × Has ls l × (l.number ≡ n) × (is_the_node x l.node ≡ true)
 line_number_of x [] n h = absurd (cc h)
 line_number_of x (m ∷ ls) n h = go (is_the_node x m.node) refl (line_number_of x ls n) h
@@ -137,6 +138,7 @@ module _ (late : Node → Bool) (p : ℕ) (known : List Name) (own : AreOwn know
       go true yes_is false has = line_at_end x t.lines (record { number = 2 + 4 * t.given; node = Some x; held = 1 }) (same_self x)
       go false no_is c has = absurd (cc no_is)
 
+  -- the same of each slot of a message, behind all of them
   pub all_have_lines : (xs : List (Option Node)) (t : Table) → NumbersGiven t → (j : ℕ) (x : Node) → slice_get xs j ≡ Some (Some x) → late x ≡ false → x.owner ≢ p → is_some (line_number x (received_all xs (arrived late p known xs t) t).lines) ≡ true
   all_have_lines [] t given j x at soon apart = absurd (cc at)
   all_have_lines (y ∷ xs) t given zero x at soon apart =
@@ -166,6 +168,7 @@ wires_given all ts (w ∷ ws) given p = wires_given all (λ q. cond (q == w.to) 
     go q true = handed_given (named w.from (wired all w.from) (ts w.from) w.number) (ts q) (given q)
     go q false = given q
 
+-- the numbers of a peer's first table were given
 pub start_given : (ws : List Wire) (p : ℕ) → NumbersGiven (start ws p)
 start_given ws p = wires_given ws (λ q. record { lines = []; given = 0 }) ws (λ q. none_given) p
 

@@ -28,6 +28,7 @@ use Rattle.b1_inv_refs.proofs.GivenUp.{found_has, number_is}
 
 -- ---- lists
 
+-- a number stands at one place of numbers that are apart
 pub place_of : (list : List ℕ) (i j n : ℕ) → Apart list → slice_get list i ≡ Some n → slice_get list j ≡ Some n → i ≡ j
 place_of [] i j n apart is also = absurd (cc is)
 place_of (m ∷ rest) zero zero n apart is also = refl
@@ -39,6 +40,7 @@ place_of (m ∷ rest) (suc i) (suc j) n apart is also = ap suc (place_of rest i 
 abbrev pub FoundName : ℕ → ℕ → ℕ → List Name → Node → Type 0
 FoundName p i n ms x = (j : ℕ) × (m : Name) × (slice_get ms j ≡ Some m) × (m.number ≡ n) × (x.owner ≡ p) × (x.serial ≡ i + j) × (x.epoch ≡ m.epoch)
 
+-- an own number finds a name with it, and the node of that name's place and epoch
 pub found_name : (p i n : ℕ) (ms : List Name) (x : Node) → node_from p i n ms ≡ Some x → FoundName p i n ms x
 found_name p i n [] x e = absurd (cc e)
 found_name p i n (m ∷ ms) x e = go (n == m.number) refl (λ f. found_name p (suc i) n ms x f) e

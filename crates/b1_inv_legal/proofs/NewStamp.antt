@@ -16,9 +16,11 @@ use Rattle.b1_ledger.specs.Growth.{IsNewStamp}
 even_max : (a b : ℕ) → a % 2 ≡ 0 → b % 2 ≡ 0 → (max a b + 2) % 2 ≡ 0
 even_max a b left right = omega (arith, left, right)
 
+-- a final stamp is above the clock
 pub above_clock : (x : PeerPart) (collected : ℕ) → x.clock < final_stamp x collected
 above_clock x collected = omega arith
 
+-- a final stamp is above what was collected
 pub above_collected : (x : PeerPart) (collected : ℕ) → collected < final_stamp x collected
 above_collected x collected = omega arith
 
@@ -27,6 +29,7 @@ module _ (s : State) (p : ℕ) (x : PeerPart) (listed : ListedBelowClock s) (is 
   pub listed_at : (k stamp : ℕ) (c : Call) → slice_get (calls_of (record_of_state s) p) k ≡ Some c → seen_stamp c.answer ≡ Some stamp → stamp ≤ x.clock
   listed_at k stamp c at seen = listed.below p x c stamp is (has_at (calls_of (record_of_state s) p) k c at) seen
 
+  -- a final stamp is new to the peer's calls
   pub new_stamp : (collected : ℕ) → x.clock % 2 ≡ 0 → collected % 2 ≡ 0 → IsNewStamp (record_of_state s) p (final_stamp x collected)
   new_stamp collected clock even = record {
     even = even_max x.clock collected clock even;

@@ -21,20 +21,25 @@ module _ (ws : List Wire) (r t : Record) (peers : length t.peers ≡ length r.pe
       ap (λ cs. option_and_then (message_at ws q cs (slots_by (message_within ws t n) q)) (sent_at stamp cs)) (calls q)
       ∙ ap (λ f. option_and_then (message_at ws q (calls_of r q) (slots_by f q)) (sent_at stamp (calls_of r q))) (λ i s p. within_is n s p i)
 
+  -- the messages are the same
   pub message_is : (stamp q : ℕ) → message ws t stamp q ≡ message ws r stamp q
   message_is stamp q = within_is (suc stamp) stamp q
 
+  -- the names are the same
   pub made_is : (p k : ℕ) → made ws t p k ≡ made ws r p k
   made_is p k = ap (λ cs. made_in 0 (wired ws p) (take (suc k) cs)) (calls p)
 
+  -- the tables are the same
   pub table_is : (p k : ℕ) → table ws t p k ≡ table ws r p k
   table_is p k =
       ap (λ cs. table_in (slots ws t p) (start ws p) (take k cs)) (calls p)
       ∙ ap (λ f. table_in (slots_by f p) (start ws p) (take k (calls_of r p))) (λ i stamp q. message_is stamp q i)
 
+  -- the epochs are the same
   pub epoch_is : (p k : ℕ) → epoch_at t p k ≡ epoch_at r p k
   epoch_is p k = ap (λ cs. epoch_in 0 (take k cs)) (calls p)
 
+  -- the last receipts are the same
   pub last_is : (p k : ℕ) → last_key t p k ≡ last_key r p k
   last_is p k = ap (λ cs. last_in None (take k cs)) (calls p)
 
@@ -46,12 +51,15 @@ module _ (ws : List Wire) (r t : Record) (peers : length t.peers ≡ length r.pe
       ∙ ap (λ cs. add_destruction p (made ws r p k) (table ws r p k) (slice_get cs k) (destructions_before ws t p k)) (calls p)
       ∙ ap (add_destruction p (made ws r p k) (table ws r p k) (slice_get (calls_of r p) k)) (before_is p k)
 
+  -- the destructions are the same
   pub destructions_is : (p : ℕ) → destructions_of ws t p ≡ destructions_of ws r p
   destructions_is p = ap (λ cs. destructions_before ws t p (length cs)) (calls p) ∙ before_is p (length (calls_of r p))
 
+  -- the nodes of notices are the same
   pub doomed_is : (key : Key) → doomed_at ws t key ≡ doomed_at ws r key
   doomed_is key = ap (λ ds. node_at key.index (find (λ d. d.stamp == key.stamp) ds)) (destructions_is key.origin)
 
+  -- the same is destroyed before a call
   pub late_is : (x : Node) (key : Key) → is_late ws t x key ≡ is_late ws r x key
   late_is x key =
       ap (λ n. list_any (is_late_by x key) (flat_map (destructions_of ws t) (range_with_len 0 n))) peers
@@ -79,6 +87,7 @@ module _ (ws : List Wire) (r t : Record) (peers : length t.peers ≡ length r.pe
       ap (λ l. is_above key l && is_notice_of ws t p k (doomed_at ws t key)) (last_is p k)
       ∙ ap (λ b. is_above key (last_key r p k) && b) (ap (is_notice_of ws t p k) (doomed_is key) ∙ notice_of_is p k (doomed_at ws r key))
 
+  -- the same may be received
   pub candidate_is : (p k : ℕ) (key : Key) → is_candidate ws t p k key ≡ is_candidate ws r p k key
   candidate_is p k key = ap (λ b. b || is_notice ws t p k key) (is_message_is p k key) ∙ ap (λ b. is_message ws r p k key || b) (is_notice_is p k key)
 

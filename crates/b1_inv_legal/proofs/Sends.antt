@@ -44,6 +44,7 @@ accepted_is (Some (Some why)) is = is
 pub made_end : (o : Opening) (r : Record) (p : ℕ) → made o.wires r p (calls_len r p) ≡ all_names o.wires r p
 made_end o r p = ap (made_in 0 (wired o.wires p)) (take-past (calls_of r p) (suc (calls_len r p)) (omega arith))
 
+-- the epoch at the end of a peer's calls
 pub epoch_end : (r : Record) (p : ℕ) → epoch_at r p (calls_len r p) ≡ epoch_in 0 (calls_of r p)
 epoch_end r p = ap (epoch_in 0) (take-end (calls_of r p))
 
@@ -107,6 +108,7 @@ module _ {o : Opening} {s : State} (sound : IsSound o s) (right : IsRight o s) (
         right.entries.above.above p i k d (doing_in (cmd.Send c) (Stamping sending)) (ref_of y) one key is_driver is_open (node.1 ∙ ap Some (sym node.2)) (accepted_is (slice_get sending.places i) goes.0) refl at got (sym epoch ∙ sym node.3) in
         let high = above_collected x sending.collected in omega (arith, low, high)
 
+    -- the record with the send is legal
     pub sent_legal : Legal o t
     sent_legal =
         legal_sent o r t p c sent more right.legal

@@ -53,6 +53,7 @@ module _ (o : Opening) (r : Record) (legal : Legal o r) (q : ℕ) where
     abbrev after : Table
     after = received_all m.carried (arrived (λ x. is_late o.wires r x key) q (made o.wires r q k) m.carried (table o.wires r q k)) (table o.wires r q k)
 
+    -- a received message is an entry at its receiver
     pub is_entry_of : IsNextReceipt o.wires r q k answer → is_entry q key.index m ≡ true
     is_entry_of next =
         let inside = (and_parts (is_above key (last_key r q k)) (is_message_in o.wires r q k key (message o.wires r key.stamp key.origin)) next.0).1 in
@@ -72,6 +73,7 @@ module _ (o : Opening) (r : Record) (legal : Legal o r) (q : ℕ) where
   changed_given k (cmd.Release n) ans.Done next was given = lowered_given n (table o.wires r q k) given
   changed_given k c a next was given = given
 
+  -- the numbers of every table were given
   pub table_given : (k : ℕ) → NumbersGiven (table o.wires r q k)
   table_given zero = subst NumbersGiven (sym (ap (table_in (slots o.wires r q) (start o.wires q)) (take_none (calls_of r q)))) (start_given o.wires q)
   table_given (suc k) = by (slice_get (calls_of r q) k) refl (table_given k)

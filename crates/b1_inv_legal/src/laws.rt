@@ -7,7 +7,7 @@ ghost use Rattle.b1_model.specs.MachineParts.{State};
 ghost use Rattle.b1_model.specs.MachineStep.{Step, opening_state, record_of_state};
 ghost use Rattle.b1_inv.specs.Sound.{IsSound};
 ghost use Rattle.b1_inv_record.specs.Right.{IsRight};
-ghost use Rattle.b1_inv_legal.specs.Fronts.{FrontIsNext, FrontIsSent};
+ghost use Rattle.b1_inv_legal.specs.Fronts.{FrontIsNext, FrontIsSent, SlotsArrive};
 
 /// A step keeps the record legal, where whatever a peer takes next is its next entry by the record, and has what was
 /// sent; and every bus begins with a legal record.
@@ -18,4 +18,11 @@ pub fn records_stay_legal()
         → FrontIsNext o s
         → FrontIsSent o s
         → Step o s p c t → Legal o (record_of_state t) }
+{}
+
+/// Whatever a peer takes next has what was sent: a message its destination's own number and its payload, with the
+/// handles as they arrive, and a destroy notice the number of its node.
+pub fn what_is_taken_was_sent()
+    ensures { (o : Opening) (s : State) → IsSound o s → IsRight o s → SlotsArrive o s
+        → FrontIsSent o s }
 {}

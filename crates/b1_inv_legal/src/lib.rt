@@ -3,4 +3,4 @@
 
 mod laws;
 
-pub use laws::records_stay_legal;
+pub use laws::{records_stay_legal, what_is_taken_was_sent};

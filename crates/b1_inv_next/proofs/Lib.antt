@@ -3,3 +3,8 @@ pub mod Epochs
 pub mod OpenSends
 pub mod Idle
 pub mod Messages
+pub mod Notices
+pub mod Nobody
+pub mod Fronts
+pub mod FrontNext
+pub mod Shown

@@ -125,9 +125,9 @@ module _ {o : Opening} {s : State} (sound : IsSound o s) (right : IsRight o s) w
         by (to_at m key.index) refl entry.1 parts.1 entry.0
       where
         by : (to : Option Node) → to_at m key.index ≡ to → is_node_of p to ≡ true → is_open_to o.wires r p (calls_len r p) key to ≡ true → is_accepted (slice_get m.places key.index) ≡ true → Queued x key
-        by None at owner open accepted = absurd (cc owner)
-        by (Some y) at owner open accepted =
-            let open_parts = and_parts (y.epoch == epoch_at r p (calls_len r p)) (not (is_late o.wires r y key)) open in
+        by None at owner opens accepted = absurd (cc owner)
+        by (Some y) at owner opens accepted =
+            let open_parts = and_parts (y.epoch == epoch_at r p (calls_len r p)) (not (is_late o.wires r y key)) opens in
             by_node m sent accepted y at owner open_parts.0 (not-true (is_late o.wires r y key) open_parts.1)
 
   -- a message that may be received next is queued, or a staged entry below it is

@@ -1,26 +1,21 @@
 -- The lines of a table against the handle records of a part: what stays so where records change that aren't held, where a reference comes, and where one is given up.
-use Rattle.std.proofs.Common.{◌≡◌, ◌⊎◌, refl, sym, ap, subst, ◌∙◌, inl, inr, ℕ, suc, pred, ◌+◌, ◌-◌, ◌≤◌, ◌==◌, nat_lt, Bool, true, false, cond, ◌&&◌, List, [], ◌∷◌, ◌++◌, Option, Some, None, option_map}
-use Rattle.std.specs.Prelude.{unwrap_or}
-use Rattle.std.proofs.lemmas.Bool.{eqb-true, eq-eqb, eqb-false, ne_eqb, and_parts, lt-ltb}
+use Rattle.std.proofs.Common.{◌≡◌, ◌⊎◌, refl, sym, ap, subst, ◌∙◌, inl, inr, ℕ, Bool, true, false, cond, Option, Some, None, option_map}
 use native.Mathlib.Omega.{arith}
 use Rattle.b1_model.specs.declared.naming.NodeRef.{NodeRef}
-use Rattle.b1_model.specs.Names.{Node, is_given}
-use Rattle.b1_model.specs.Ledger.{Line, Table, is_the_node, line_number, has_line, raised, lowered, gained, received}
-use Rattle.b1_model.specs.Ledger.{given_number}
-use Rattle.b1_model.specs.MachineParts.{HandleRecord, same_ref, record_of, record_or_none, no_record}
-use Rattle.b1_model.specs.MachineTables.{is_needed, changed, less_held, more_held, next_number, is_number, held_node}
-use Rattle.b1_step.specs.Rights.{Has, SameHandle, Unheld, HandlesKept}
+use Rattle.b1_model.specs.Names.{Node}
+use Rattle.b1_model.specs.Ledger.{Line, Table, line_number}
+use Rattle.b1_model.specs.MachineParts.{HandleRecord, same_ref, record_of}
+use Rattle.b1_model.specs.MachineTables.{is_needed, changed}
+use Rattle.b1_step.specs.Rights.{Has, HandlesKept}
 use Rattle.b1_step.specs.Ordered.{Rising}
-use Rattle.b1_step.proofs.Lists.{has_append, has_left, has_right}
-use Rattle.b1_step.proofs.Orders.{same_ref_is, same_ref_itself}
+use Rattle.b1_step.proofs.Orders.{same_ref_is}
 use Rattle.b1_step.proofs.Lookups.{kept_by, rising_changed, own_changed, other_changed}
 use Rattle.b1_inv.specs.Numbers.{AreNumbered, WasGiven}
 use Rattle.b1_inv_record.specs.Epochs.{ref_of, is_ref}
 use Rattle.b1_inv_record.specs.Names.{IsLineOf}
-use Rattle.b1_inv_refs.proofs.Views.{Handles, or_none}
-use Rattle.b1_inv_refs.proofs.Numbered.{given_then}
-use Rattle.b1_inv_refs.proofs.GivenUp.{record_found, one_record, found_has, number_is}
-use Rattle.b1_inv_tables.proofs.Lines.{Lines, AreApart, one_line, ref_is, is_ref_of, node_is, is_node_of, has_line_of, has_line_none, line_number_is, line_number_some, line_number_none, more, less, raised_is, raised_other, raised_own, raised_apart, added_apart, lowered_is, lowered_more, lowered_other, lowered_own, lowered_apart}
+use Rattle.b1_inv_refs.proofs.Views.{Handles}
+use Rattle.b1_inv_refs.proofs.GivenUp.{record_found, one_record, found_has}
+use Rattle.b1_inv_tables.proofs.Lines.{AreApart, ref_is, node_is, is_node_of, line_number_is, line_number_some, line_number_none}
 
 -- the lines of a table, each number once, are the numbered records, and as many numbers were given
 pub record IsTable (t : Table) (count : ℕ) (hs : Handles) : Type 0 where

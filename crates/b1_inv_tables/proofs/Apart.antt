@@ -1,7 +1,5 @@
 -- No two lines of a table have one number.
-use Rattle.std.proofs.Common.{◌≡◌, refl, sym, ap, inl, inr, ◌∙◌, ℕ, zero, suc, ◌%◌, ◌==◌, Bool, true, false, cond, List, [], ◌∷◌, ◌++◌, get_or, take, Option, Some, None}
-use Rattle.std.proofs.lemmas.Bool.{eqb-true}
-use Rattle.std.specs.Prelude.{⊤}
+use Rattle.std.proofs.Common.{◌≡◌, refl, sym, ap, inl, inr, ◌∙◌, ℕ, zero, suc, ◌%◌, ◌==◌, Bool, true, false, cond, List, [], ◌∷◌, ◌++◌, take, Option, Some, None}
 use Rattle.b1_model.specs.declared.naming.Key.{Key}
 use Rattle.b1_model.specs.declared.naming.Wire.{Wire}
 use Rattle.b1_model.specs.declared.commands.Command.{Command}
@@ -12,10 +10,10 @@ use Rattle.b1_model.specs.declared.answers.Receipt.TheVariants as rec
 use Rattle.b1_model.specs.declared.records.Call.{Call}
 use Rattle.b1_model.specs.declared.records.Record.{Record}
 use Rattle.b1_model.specs.Names.{Node, is_given, calls_of, wired}
-use Rattle.b1_model.specs.Ledger.{Line, Table, has_line, line_number, raised, gained, received, received_all, given_number, handed, named, wire_tables, start, changed, table_in, slots, table}
-use Rattle.b1_model.specs.MachineParts.{NodePart, no_node}
+use Rattle.b1_model.specs.Ledger.{Table, has_line, line_number, raised, received, received_all, given_number, handed, named, wire_tables, start, changed, table_in, slots, table}
+use Rattle.b1_model.specs.MachineParts.{NodePart}
 use Rattle.b1_step.specs.Rights.{Has}
-use Rattle.b1_inv_tables.proofs.Lines.{Lines, AreApart, has_line_of, raised_apart, added_apart, lowered_apart}
+use Rattle.b1_inv_tables.proofs.Lines.{AreApart, has_line_of, raised_apart, added_apart, lowered_apart}
 use Rattle.b1_inv_tables.proofs.Slots.{OwnNumbers}
 
 abbrev TableApart : Table → Type 0

@@ -1,27 +1,19 @@
 -- What each event of a driver makes of the table behind its calls: it stays, but for what a RECV took, for a release, and for the answer of a reset, which empties it.
-use Rattle.std.proofs.Common.{◌≡◌, ◌⊎◌, refl, sym, ap, subst, ◌∙◌, inl, inr, ℕ, zero, suc, ◌+◌, max, Bool, true, false, cond, ◌&&◌, nat_lt, List, [], ◌∷◌, ◌++◌, drop, length, get_or, Option, Some, None, Ok, Err, Result}
-use native.Mathlib.Omega.{arith}
+use Rattle.std.proofs.Common.{◌≡◌, ◌⊎◌, refl, sym, ap, subst, ◌∙◌, inl, inr, ℕ, ◌+◌, max, Bool, true, false, cond, ◌&&◌, nat_lt, List, [], ◌∷◌, ◌++◌, drop, length, get_or, Option, Some, None, Ok, Err, Result}
 use Rattle.b1_model.specs.declared.naming.Key.{Key}
 use Rattle.b1_model.specs.declared.naming.Opening.{Opening}
 use Rattle.b1_model.specs.declared.naming.NodeRef.{NodeRef}
 use Rattle.b1_model.specs.declared.commands.Command.{Command}
-use Rattle.b1_model.specs.declared.commands.Command.TheVariants as cmd
-use Rattle.b1_model.specs.declared.commands.SendCmd.{SendCmd}
 use Rattle.b1_model.specs.declared.answers.Answer.{Answer}
 use Rattle.b1_model.specs.declared.answers.Answer.TheVariants as answer
-use Rattle.b1_model.specs.declared.answers.Front.{Front}
-use Rattle.b1_model.specs.declared.answers.Receipt.{Receipt}
-use Rattle.b1_model.specs.declared.answers.Receipt.TheVariants as receipt
 use Rattle.b1_model.specs.declared.answers.Reason.{Reason}
-use Rattle.b1_model.specs.declared.answers.Reason.TheVariants.{Unknown, Memory, Invalid}
+use Rattle.b1_model.specs.declared.answers.Reason.TheVariants.{Memory, Invalid}
 use Rattle.b1_model.specs.declared.answers.Refused.{Refused}
 use Rattle.b1_model.specs.declared.parts.Begun.{Begun}
-use Rattle.b1_model.specs.declared.parts.Owed.{Owed}
 use Rattle.b1_model.specs.declared.events.Action.{Action}
 use Rattle.b1_model.specs.declared.events.Action.TheVariants as act
 use Rattle.b1_model.specs.declared.events.Destruction.{Destruction}
 use Rattle.b1_model.specs.declared.events.OwedDrop.{OwedDrop}
-use Rattle.b1_model.specs.declared.events.Outcome.{Outcome}
 use Rattle.b1_model.specs.declared.events.Outcome.TheVariants as out
 use Rattle.b1_model.specs.declared.events.Phase.{Phase}
 use Rattle.b1_model.specs.declared.events.Phase.TheVariants.{Starting, Staging, Unstaging, Attaching, Stamping, Syncing, Committing, Dropping, Reaping, Visiting, Dooming, SyncingNotices, CommittingOwn, CommittingNotices, Flushing}
@@ -29,17 +21,15 @@ use Rattle.b1_model.specs.declared.events.Sending.{Sending}
 use Rattle.b1_model.specs.Names.{Node}
 use Rattle.b1_model.specs.Ledger.{Table, lowered, changed}
 use Rattle.b1_model.specs.MachineParts.{PeerPart, DriverPart}
-use Rattle.b1_model.specs.MachinePool.{is_received}
-use Rattle.b1_model.specs.MachineSend.{send_refusal, final_stamp}
 use Rattle.b1_model.specs.MachineReceive.{received, released}
-use Rattle.b1_model.specs.MachineDriver.{accepted_from, is_place, attaching, with_slot, all_staged, staging, all_refused, memory_place, refused_at, unstaging, syncing, visiting, with_visit, syncing_notices, committing_notices, destroying, is_flushing, send_of, recv_answer, started, turn, Turn, Goes, Ends, first_action, next_action, phase_action, place_done}
+use Rattle.b1_model.specs.MachineDriver.{accepted_from, is_place, attaching, all_staged, staging, all_refused, memory_place, refused_at, unstaging, syncing, visiting, syncing_notices, committing_notices, is_flushing, send_of, turn, Turn, Goes, Ends, phase_action, place_done}
 use Rattle.b1_model.specs.MachineTook.{as_call, stamped_answer}
-use Rattle.b1_model.specs.MachineEvents.{happens, begin_by, stage_by, destroy_by, begin_refusal, begin_serials, local_answer, number_of, collected_of, doomed_of}
+use Rattle.b1_model.specs.MachineEvents.{happens, stage_by, number_of}
 use Rattle.b1_model.specs.MachineDestroy.{doom_answer}
 use Rattle.b1_ledger.specs.Growth.{is_quiet}
 use Rattle.b1_ledger.proofs.Steps.{quiet_table}
 use Rattle.b1_inv_record.specs.Epochs.{awaits_flush}
-use Rattle.b1_inv_notices.proofs.Turns.{doing_in, opened, answered}
+use Rattle.b1_inv_notices.proofs.Turns.{doing_in, opened}
 use Rattle.b1_inv_refs.proofs.Owing.{drop_stays}
 use Rattle.b1_inv_tables.proofs.Receives.{table_after}
 use Rattle.b1_inv_tables.proofs.Values.{phase_table, turn_table, turn_gap}

@@ -1,16 +1,13 @@
 -- What the first event of each command makes of the table behind a driver's calls.
-use Rattle.std.proofs.Common.{◌≡◌, ◌⊎◌, refl, sym, ap, subst, ◌∙◌, inl, inr, ℕ, Bool, true, false, cond, List, [], ◌∷◌, Option, Some, None, Ok, Err, Result}
+use Rattle.std.proofs.Common.{◌≡◌, refl, sym, ap, subst, inl, inr, ℕ, Bool, true, false, cond, List, [], ◌∷◌, Option, Some, None, Ok, Err, Result}
 use Rattle.b1_model.specs.declared.naming.Key.{Key}
-use Rattle.b1_model.specs.declared.naming.NodeRef.{NodeRef}
 use Rattle.b1_model.specs.declared.naming.Opening.{Opening}
 use Rattle.b1_model.specs.declared.commands.Command.{Command}
 use Rattle.b1_model.specs.declared.commands.Command.TheVariants as cmd
 use Rattle.b1_model.specs.declared.commands.SendCmd.{SendCmd}
-use Rattle.b1_model.specs.declared.answers.Answer.{Answer}
 use Rattle.b1_model.specs.declared.answers.Answer.TheVariants as answer
 use Rattle.b1_model.specs.declared.answers.Front.{Front}
 use Rattle.b1_model.specs.declared.answers.Receipt.{Receipt}
-use Rattle.b1_model.specs.declared.answers.Receipt.TheVariants as receipt
 use Rattle.b1_model.specs.declared.answers.Reason.{Reason}
 use Rattle.b1_model.specs.declared.answers.Reason.TheVariants.{Unknown, Memory, Again}
 use Rattle.b1_model.specs.declared.parts.Owed.{Owed}
@@ -18,23 +15,22 @@ use Rattle.b1_model.specs.declared.events.Action.TheVariants as act
 use Rattle.b1_model.specs.declared.events.OwedDrop.{OwedDrop}
 use Rattle.b1_model.specs.declared.events.Outcome.TheVariants as out
 use Rattle.b1_model.specs.declared.events.Phase.{Phase}
-use Rattle.b1_model.specs.declared.events.Phase.TheVariants.{Starting, Staging, Dropping, Reaping, Flushing}
+use Rattle.b1_model.specs.declared.events.Phase.TheVariants.{Starting}
 use Rattle.b1_model.specs.Names.{Node}
 use Rattle.b1_model.specs.Ledger.{Table, lowered, changed}
 use Rattle.b1_model.specs.MachineParts.{PeerPart, DriverPart}
 use Rattle.b1_model.specs.MachinePool.{is_received}
 use Rattle.b1_model.specs.MachineSend.{send_refusal}
 use Rattle.b1_model.specs.MachineReceive.{received, released}
-use Rattle.b1_model.specs.MachineDriver.{refused_at, destroying, send_of, recv_answer, started, turn, Turn, Goes, Ends, first_action, next_action}
+use Rattle.b1_model.specs.MachineDriver.{refused_at, send_of, turn, first_action, next_action}
 use Rattle.b1_model.specs.MachineTook.{as_call}
 use Rattle.b1_model.specs.MachineEvents.{begin_by, destroy_by, begin_refusal, begin_serials, local_answer}
 use Rattle.b1_ledger.specs.Growth.{is_quiet}
 use Rattle.b1_ledger.proofs.Steps.{quiet_table}
-use Rattle.b1_inv_record.specs.Epochs.{awaits_flush}
 use Rattle.b1_inv_notices.proofs.Turns.{opened}
 use Rattle.b1_inv_tables.proofs.Receives.{table_after}
 use Rattle.b1_inv_tables.proofs.Values.{turn_table, turn_gap}
-use Rattle.b1_inv_tables.proofs.Deeds.{emptied, IsStill, quiet_ends, refused_still, still_visiting, Deed, turn_of, stays_open, dropped, phase_deed}
+use Rattle.b1_inv_tables.proofs.Deeds.{IsStill, quiet_ends, refused_still, still_visiting, Deed, turn_of, stays_open, dropped, phase_deed}
 
 local_quiet : (shut : Bool) (command : Command) (x : PeerPart) → is_quiet (as_call command) (local_answer shut command x) ≡ true
 local_quiet true command x = refl

@@ -1,11 +1,11 @@
 -- A wire gives a reference: the table and the records of its holder change alike.
-use Rattle.std.proofs.Common.{◌≡◌, ◌⊎◌, refl, sym, ap, subst, ◌∙◌, inl, inr, ℕ, zero, suc, ◌+◌, ◌*◌, ◌≤◌, ◌==◌, Bool, true, false, cond, List, [], ◌∷◌, ◌++◌, Option, Some, None, option_map}
+use Rattle.std.proofs.Common.{◌≡◌, ◌⊎◌, refl, sym, ap, subst, ◌∙◌, inl, inr, ℕ, suc, ◌+◌, ◌==◌, Bool, true, false, cond, [], ◌∷◌, ◌++◌, Option, Some, None}
 use Rattle.std.proofs.lemmas.Bool.{ne_eqb}
 use native.Mathlib.Omega.{arith}
 use Rattle.b1_model.specs.declared.naming.NodeRef.{NodeRef}
 use Rattle.b1_model.specs.Names.{Node}
-use Rattle.b1_model.specs.Ledger.{Line, Table, is_the_node, line_number, raised, received, given_number, handed}
-use Rattle.b1_model.specs.MachineParts.{HandleRecord, same_ref, record_of, record_or_none, no_record}
+use Rattle.b1_model.specs.Ledger.{Line, Table, line_number, raised, received, given_number, handed}
+use Rattle.b1_model.specs.MachineParts.{HandleRecord, same_ref, record_of, record_or_none}
 use Rattle.b1_model.specs.MachineTables.{changed_or_made, more_held, next_number}
 use Rattle.b1_step.specs.Rights.{Has}
 use Rattle.b1_step.specs.Ordered.{Rising}

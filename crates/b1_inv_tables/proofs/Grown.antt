@@ -1,9 +1,8 @@
 -- The record after a step: it grows by a call at most, and the tables, messages and destructions that it showed stay.
-use Rattle.std.proofs.Common.{◌≡◌, refl, sym, ap, ◌∙◌, ℕ, suc, ◌≤◌, List, [], ◌∷◌, length, Option, Some, None}
+use Rattle.std.proofs.Common.{◌≡◌, refl, sym, ap, ◌∙◌, ℕ, suc, ◌≤◌, List, [], ◌∷◌, length, Option, Some}
 use native.Mathlib.Omega.{arith}
 use Rattle.b1_model.specs.declared.commands.Command.{Command}
 use Rattle.b1_model.specs.declared.naming.Opening.{Opening}
-use Rattle.b1_model.specs.Names.{calls_of}
 use Rattle.b1_model.specs.Ledger.{Message, message, table}
 use Rattle.b1_model.specs.Legal.{Legal}
 use Rattle.b1_model.specs.MachineParts.{PeerPart, DriverPart, State}

@@ -1,5 +1,5 @@
 -- A step keeps the lines of each peer's table its numbered records.
-use Rattle.std.proofs.Common.{◌≡◌, ◌≢◌, ◌⊎◌, refl, sym, ap, subst, ◌∙◌, inl, inr, ℕ, zero, suc, ◌%◌, ◌≤◌, Bool, true, false, cond, List, [], ◌∷◌, map, take, length, Option, Some, None, Ok, Err, Result, option_map}
+use Rattle.std.proofs.Common.{◌≡◌, ◌≢◌, ◌⊎◌, refl, sym, ap, subst, ◌∙◌, inl, inr, ℕ, Bool, true, false, List, [], map, take, Option, Some, None, Ok, Err, option_map}
 use Rattle.std.specs.Prelude.{slice_get}
 use Rattle.std.proofs.lemmas.Bool.{eq-eqb}
 use Rattle.std.proofs.lemmas.Option.{same_Some}
@@ -8,24 +8,21 @@ use Rattle.b1_model.specs.declared.commands.Command.{Command}
 use Rattle.b1_model.specs.declared.naming.Key.{Key}
 use Rattle.b1_model.specs.declared.naming.NodeRef.{NodeRef}
 use Rattle.b1_model.specs.declared.naming.Opening.{Opening}
-use Rattle.b1_model.specs.declared.parts.Owed.{Owed}
-use Rattle.b1_model.specs.declared.parts.Slot.{Slot}
-use Rattle.b1_model.specs.declared.answers.Reason.{Reason}
 use Rattle.b1_model.specs.declared.entries.Entry.{Entry}
 use Rattle.b1_model.specs.declared.entries.Entry.TheVariants.{Message, OwnNotice, ForeignNotice, ReleaseNotice}
 use Rattle.b1_model.specs.declared.events.Action.{Action}
 use Rattle.b1_model.specs.declared.events.Action.TheVariants as act
 use Rattle.b1_model.specs.Names.{Node, calls_of, is_given}
-use Rattle.b1_model.specs.Ledger.{Line, Table, Message as LedgerMessage, is_accepted, is_node_of, to_at, table_in, start, slots, slots_by, message, table, lowered}
-use Rattle.b1_model.specs.MachineParts.{PeerPart, DriverPart, HandleRecord, State, is_staged, is_data, carried, slots_of}
-use Rattle.b1_model.specs.MachineTables.{changed, less_held, held_node}
+use Rattle.b1_model.specs.Ledger.{Table, Message as LedgerMessage, is_accepted, is_node_of, to_at, table_in, start, slots, slots_by, message, table, lowered}
+use Rattle.b1_model.specs.MachineParts.{PeerPart, DriverPart, State, is_staged, is_data, carried, slots_of}
+use Rattle.b1_model.specs.MachineTables.{held_node}
 use Rattle.b1_model.specs.MachineReceive.{received, released, released_by, given_up}
-use Rattle.b1_model.specs.MachineDriver.{next_action, peer_of, Turn, turn}
+use Rattle.b1_model.specs.MachineDriver.{peer_of, turn}
 use Rattle.b1_model.specs.MachineTook.{driver_calls}
-use Rattle.b1_model.specs.MachineEvents.{happens, number_of}
+use Rattle.b1_model.specs.MachineEvents.{happens}
 use Rattle.b1_model.specs.MachineStep.{Step, record_of_state}
-use Rattle.b1_step.specs.Rights.{Has, may_be_elsewhere}
-use Rattle.b1_step.proofs.Locality.{own_driver, own_place}
+use Rattle.b1_step.specs.Rights.{Has}
+use Rattle.b1_step.proofs.Locality.{own_driver}
 use Rattle.b1_ledger.specs.Growth.{calls_len}
 use Rattle.b1_ledger.proofs.Grows.{Found}
 use Rattle.b1_ledger.proofs.Sequences.{take-end}
@@ -36,22 +33,20 @@ use Rattle.b1_inv.specs.References.{AreFilled}
 use Rattle.b1_inv.specs.Sound.{IsSound}
 use Rattle.b1_inv_record.specs.Epochs.{in_gap, ref_of, awaits_flush}
 use Rattle.b1_inv_record.specs.Entries.{IsCallOf}
-use Rattle.b1_inv_record.specs.Names.{TableIsLines, IsLineOf}
 use Rattle.b1_inv_record.specs.Right.{IsRight}
-use Rattle.b1_inv_tools.proofs.Leaves.{driver_cases, peer_cases}
+use Rattle.b1_inv_tools.proofs.Leaves.{peer_cases}
 use Rattle.b1_inv_notices.proofs.Turns.{parts, going, going_doing, going_action, going_answer}
 use Rattle.b1_inv_refs.proofs.Receipts.{Flies, HasSlots}
 use Rattle.b1_inv_names.proofs.Recorded.{recorded_calls}
-use Rattle.b1_inv_names.proofs.Gaps.{gaps_kept}
 use Rattle.b1_inv_tables.proofs.Lines.{AreApart}
-use Rattle.b1_inv_tables.proofs.Agrees.{IsTable, LinesKept, kept_table}
+use Rattle.b1_inv_tables.proofs.Agrees.{IsTable, kept_table}
 use Rattle.b1_inv_tables.proofs.References.{release_table}
 use Rattle.b1_inv_tables.proofs.Slots.{OwnNumbers}
 use Rattle.b1_inv_tables.proofs.Receives.{Looks, table_after, recv_table}
-use Rattle.b1_inv_tables.proofs.Values.{phase_table, turn_table, turn_gap, value, listed, value_is, value_before, value_behind, gap_before, gap_behind}
+use Rattle.b1_inv_tables.proofs.Values.{phase_table, turn_table, value, listed, value_is, value_before, value_behind, gap_before, gap_behind}
 use Rattle.b1_inv_tables.proofs.Deeds.{is_plain, emptied, Stays, Empties, Receives, Releases, Flushes, Deed}
 use Rattle.b1_inv_tables.proofs.FirstDeeds.{deed}
-use Rattle.b1_inv_tables.proofs.Plain.{SameTable, same_table, other_event, plain_event}
+use Rattle.b1_inv_tables.proofs.Plain.{SameTable, same_table, plain_event}
 use Rattle.b1_inv_tables.proofs.Apart.{table_apart, own_numbers}
 use Rattle.b1_inv_tables.proofs.Grown.{kept, table_stays, message_stays}
 

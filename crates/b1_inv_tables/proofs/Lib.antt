@@ -13,3 +13,5 @@ pub mod Grown
 pub mod Kept
 pub mod LinesKept
 pub mod Given
+pub mod Named
+pub mod Begins

@@ -1,13 +1,12 @@
 -- Lines of a table, each number once: which stand there after one is held once more, once less, or comes.
-use Rattle.std.proofs.Common.{◌≡◌, ◌⊎◌, refl, sym, ap, subst, ◌∙◌, inl, inr, ℕ, suc, pred, ◌==◌, Bool, true, false, cond, ◌&&◌, List, [], ◌∷◌, ◌++◌, Option, Some, None, option_map}
+use Rattle.std.proofs.Common.{◌≡◌, ◌⊎◌, refl, sym, ap, ◌∙◌, inl, inr, ℕ, suc, pred, ◌==◌, Bool, true, false, cond, List, [], ◌∷◌, ◌++◌, Option, Some, None, option_map}
 use Rattle.std.specs.Prelude.{⊤}
 use Rattle.std.proofs.lemmas.Bool.{eqb-true, eq-eqb, eqb-false, ne_eqb, and_parts}
-use native.Mathlib.Omega.{arith}
 use Rattle.b1_model.specs.declared.naming.NodeRef.{NodeRef}
 use Rattle.b1_model.specs.Names.{Node}
 use Rattle.b1_model.specs.Ledger.{Line, is_the_node, line_number, has_line, raised, lowered}
 use Rattle.b1_step.specs.Rights.{Has}
-use Rattle.b1_step.proofs.Lists.{has_append, has_left, has_right}
+use Rattle.b1_step.proofs.Lists.{has_append}
 use Rattle.b1_inv_record.specs.Epochs.{ref_of, is_ref}
 
 abbrev pub Lines : Type 0

@@ -1,12 +1,12 @@
 -- What every event but a RECV, a release and a flush leaves of the records: their numbers, and how often each node is held.
-use Rattle.std.proofs.Common.{◌≡◌, refl, sym, ap, subst, ◌∙◌, Bool, true, false}
+use Rattle.std.proofs.Common.{◌≡◌, refl, sym, ap, subst, Bool, true}
 use Rattle.b1_model.specs.declared.naming.Opening.{Opening}
 use Rattle.b1_model.specs.declared.events.Action.{Action}
 use Rattle.b1_model.specs.declared.events.Action.TheVariants as act
 use Rattle.b1_model.specs.declared.events.Doing.{Doing}
 use Rattle.b1_model.specs.MachineParts.{PeerPart, DriverPart}
 use Rattle.b1_model.specs.MachineEvents.{happens}
-use Rattle.b1_step.specs.Rights.{may_be_elsewhere, Keeps}
+use Rattle.b1_step.specs.Rights.{may_be_elsewhere}
 use Rattle.b1_step.proofs.Changed.{changes}
 use Rattle.b1_step.proofs.Kept.{keeps}
 use Rattle.b1_inv_tables.proofs.Agrees.{LinesKept, lines_same, lines_of_kept}

@@ -1,10 +1,9 @@
 -- A RECV at a part: the table after what it took has the lines of the records that it left, and a message's numbers are those of the record's contents.
-use Rattle.std.proofs.Common.{◌≡◌, ◌≢◌, refl, sym, ap, subst, ◌∙◌, inl, inr, ℕ, ◌+◌, ◌≤◌, Bool, true, false, List, [], ◌∷◌, ◌++◌, map, drop, fold, zip, length, Option, Some, None, Ok, Err, Result, option_map}
+use Rattle.std.proofs.Common.{◌≡◌, refl, sym, ap, subst, ◌∙◌, inl, ℕ, Bool, true, false, List, [], ◌∷◌, map, drop, fold, zip, length, Option, Some, Ok, Err, Result, option_map}
 use Rattle.std.specs.Prelude.{⊤}
 use native.Mathlib.Omega.{arith}
 use Rattle.b1_model.specs.declared.naming.Key.{Key}
 use Rattle.b1_model.specs.declared.naming.NodeRef.{NodeRef}
-use Rattle.b1_model.specs.declared.commands.Command.{Command}
 use Rattle.b1_model.specs.declared.commands.Command.TheVariants as cmd
 use Rattle.b1_model.specs.declared.parts.Slot.{Slot}
 use Rattle.b1_model.specs.declared.entries.Entry.{Entry}
@@ -14,21 +13,19 @@ use Rattle.b1_model.specs.declared.answers.Front.{Front}
 use Rattle.b1_model.specs.declared.answers.Receipt.{Receipt}
 use Rattle.b1_model.specs.Names.{Node, Name}
 use Rattle.b1_model.specs.Ledger.{Table, received_all, changed as table_changed}
-use Rattle.b1_model.specs.Legal.{arrived}
-use Rattle.b1_model.specs.MachineParts.{PeerPart, NodePart, is_staged, is_data, carried, slots_of, record_or_none}
+use Rattle.b1_model.specs.MachineParts.{PeerPart, is_staged, is_data, carried, slots_of}
 use Rattle.b1_model.specs.MachinePool.{published}
 use Rattle.b1_model.specs.MachineTables.{changed, foreign, unexpected, made_dead}
-use Rattle.b1_model.specs.MachineReceive.{Arriving, discards, discarded, cleared, slot_arrives, slots_arrived, taken_entry, front_by, front_taken, received, received_part}
+use Rattle.b1_model.specs.MachineReceive.{Arriving, discards, discarded, cleared, slot_arrives, taken_entry, front_by, front_taken, received, received_part}
 use Rattle.b1_step.specs.Rights.{Has}
 use Rattle.b1_step.specs.Ordered.{Rising}
 use Rattle.b1_step.proofs.Lists.{has_right}
 use Rattle.b1_step.proofs.Records.{kept_unexpected}
 use Rattle.b1_inv.specs.Numbers.{AreNumbered}
-use Rattle.b1_inv.specs.References.{AreFilled, times_in, carried_times}
+use Rattle.b1_inv.specs.References.{AreFilled, carried_times}
 use Rattle.b1_inv_record.specs.Epochs.{ref_of}
 use Rattle.b1_inv_refs.proofs.Amounts.{Items}
-use Rattle.b1_inv_refs.proofs.Views.{Handles}
-use Rattle.b1_inv_refs.proofs.Arrivals.{InFlight, flight_in, Cleared, is_cleared, all_removed, carried_cons, queue_parts}
+use Rattle.b1_inv_refs.proofs.Arrivals.{InFlight, Cleared, is_cleared, all_removed, carried_cons, queue_parts}
 use Rattle.b1_inv_refs.proofs.Flying.{numbers_closed}
 use Rattle.b1_inv_refs.proofs.Receipts.{Flies, HasSlots}
 use Rattle.b1_inv_refs.proofs.Tables.{at_discards}

@@ -1,24 +1,24 @@
 -- A reference comes to a part, or is given up there: its table and its records change alike.
-use Rattle.std.proofs.Common.{◌≡◌, ◌⊎◌, refl, sym, ap, subst, ◌∙◌, inl, inr, ℕ, zero, suc, pred, ◌+◌, ◌-◌, ◌*◌, ◌%◌, ◌≤◌, ◌==◌, nat_lt, Bool, true, false, cond, ◌&&◌, List, [], ◌∷◌, ◌++◌, find, Option, Some, None, option_map}
+use Rattle.std.proofs.Common.{◌≡◌, ◌⊎◌, refl, sym, ap, subst, ◌∙◌, inl, inr, ℕ, zero, suc, pred, ◌+◌, ◌-◌, ◌*◌, ◌%◌, ◌≤◌, ◌==◌, nat_lt, Bool, true, false, cond, [], ◌∷◌, ◌++◌, find, Option, Some, None}
 use Rattle.std.specs.Prelude.{unwrap_or}
-use Rattle.std.proofs.lemmas.Bool.{eqb-true, eq-eqb, eqb-false, ne_eqb, lt-ltb, ltb-true, ltb-false}
+use Rattle.std.proofs.lemmas.Bool.{eq-eqb, ne_eqb, lt-ltb, ltb-true, ltb-false}
 use native.Mathlib.Omega.{arith}
 use Rattle.b1_model.specs.declared.naming.NodeRef.{NodeRef}
 use Rattle.b1_model.specs.Names.{Node, is_given}
 use Rattle.b1_model.specs.Ledger.{Line, Table, line_number, has_line, raised, lowered, received, given_number}
 use Rattle.b1_model.specs.MachineParts.{HandleRecord, same_ref, record_of}
-use Rattle.b1_model.specs.MachineTables.{is_needed, changed, less_flight, less_held, more_held, next_number, is_number, held_node}
+use Rattle.b1_model.specs.MachineTables.{changed, less_flight, less_held, more_held, next_number, is_number, held_node}
 use Rattle.b1_step.specs.Rights.{Has}
 use Rattle.b1_step.specs.Ordered.{Rising}
 use Rattle.b1_step.proofs.Lists.{has_append, has_left, has_right}
 use Rattle.b1_step.proofs.Orders.{same_ref_is, same_ref_itself}
 use Rattle.b1_inv.specs.Numbers.{AreNumbered, WasGiven}
-use Rattle.b1_inv_record.specs.Epochs.{ref_of, is_ref}
+use Rattle.b1_inv_record.specs.Epochs.{ref_of}
 use Rattle.b1_inv_record.specs.Names.{IsLineOf}
 use Rattle.b1_inv_refs.proofs.Views.{Handles}
 use Rattle.b1_inv_refs.proofs.Numbered.{given_then}
 use Rattle.b1_inv_refs.proofs.GivenUp.{one_record, found_has, number_is, record_found}
-use Rattle.b1_inv_tables.proofs.Lines.{Lines, AreApart, is_ref_of, has_line_of, has_line_none, more, less, raised_is, raised_other, raised_own, raised_apart, added_apart, lowered_is, lowered_more, lowered_other, lowered_own, lowered_apart}
+use Rattle.b1_inv_tables.proofs.Lines.{is_ref_of, has_line_of, has_line_none, more, less, raised_is, raised_other, raised_own, raised_apart, added_apart, lowered_is, lowered_more, lowered_other, lowered_own, lowered_apart}
 use Rattle.b1_inv_tables.proofs.Agrees.{IsTable, other_or, other_stays, own_stays, found_there, line_of_number, no_line, line_found, line_given}
 
 -- a number that was given, and the next one, are given numbers by their form

@@ -1,5 +1,5 @@
 -- One slot of a message arrives: the table and the records change alike, and its number is that of the record's contents.
-use Rattle.std.proofs.Common.{◌≡◌, ◌≢◌, ◌⊎◌, refl, sym, ap, subst, ◌∙◌, inl, inr, ℕ, zero, suc, ◌+◌, ◌-◌, ◌%◌, ◌≤◌, ◌==◌, Bool, true, false, cond, not, List, [], ◌∷◌, ◌++◌, get_or, Option, Some, None}
+use Rattle.std.proofs.Common.{◌≡◌, ◌≢◌, refl, sym, ap, subst, ◌∙◌, ℕ, ◌≤◌, ◌==◌, Bool, true, false, cond, not, List, [], ◌∷◌, ◌++◌, get_or, Option, Some, None}
 use Rattle.std.specs.Prelude.{unwrap_or}
 use Rattle.std.proofs.lemmas.Bool.{ne_eqb, eq-eqb}
 use native.Mathlib.Omega.{arith}
@@ -9,7 +9,7 @@ use Rattle.b1_model.specs.declared.parts.Slot.TheVariants as slot
 use Rattle.b1_model.specs.Names.{invalid, is_given, Node, Name, number_at}
 use Rattle.b1_model.specs.Ledger.{Table, line_number, gained, given_number, received}
 use Rattle.b1_model.specs.Legal.{arrives, handle_number}
-use Rattle.b1_model.specs.MachineParts.{PeerPart, NodePart, HandleRecord, same_ref, record_of, record_or_none, no_node, node_at}
+use Rattle.b1_model.specs.MachineParts.{NodePart, HandleRecord, same_ref, record_of, record_or_none, no_node}
 use Rattle.b1_model.specs.MachineTables.{is_needed, changed, less_flight, more_held, next_number, foreign, unexpected}
 use Rattle.b1_model.specs.MachineReceive.{Arriving, reference_by, slot_arrives}
 use Rattle.b1_step.specs.Ordered.{Rising}
@@ -22,7 +22,7 @@ use Rattle.b1_inv_record.specs.Epochs.{ref_of}
 use Rattle.b1_inv_refs.proofs.Views.{Handles, or_none}
 use Rattle.b1_inv_refs.proofs.Arrivals.{flight_in}
 use Rattle.b1_inv_refs.proofs.Numbered.{given_then, numbers_same, numbers_come}
-use Rattle.b1_inv_tables.proofs.Agrees.{IsTable, LinesKept, SameLine, lines_same, lines_of_kept, kept_table, same_kept}
+use Rattle.b1_inv_tables.proofs.Agrees.{IsTable, LinesKept, lines_of_kept, kept_table, same_kept}
 use Rattle.b1_inv_tables.proofs.References.{come_table, number_of_slot}
 
 -- ---- a record in flight

@@ -1,27 +1,25 @@
 -- The table behind a driver's calls, with that of its open command where its answer is fixed, carried through a turn.
-use Rattle.std.proofs.Common.{◌≡◌, refl, sym, ap, ◌∙◌, inl, inr, ℕ, Bool, true, false, cond, ◌&&◌, List, [], ◌∷◌, ◌++◌, Option, Some, None}
+use Rattle.std.proofs.Common.{◌≡◌, refl, sym, ap, ◌∙◌, inl, inr, ℕ, Bool, true, false, cond, ◌&&◌, List, [], ◌∷◌, Option, Some, None}
 use Rattle.b1_model.specs.declared.naming.Key.{Key}
 use Rattle.b1_model.specs.declared.naming.Opening.{Opening}
 use Rattle.b1_model.specs.declared.commands.Command.{Command}
 use Rattle.b1_model.specs.declared.answers.Answer.{Answer}
 use Rattle.b1_model.specs.declared.answers.Answer.TheVariants as answer
-use Rattle.b1_model.specs.declared.answers.Refused.{Refused}
 use Rattle.b1_model.specs.declared.events.Doing.{Doing}
 use Rattle.b1_model.specs.declared.events.Outcome.{Outcome}
 use Rattle.b1_model.specs.declared.events.OwedDrop.{OwedDrop}
 use Rattle.b1_model.specs.declared.events.Phase.{Phase}
 use Rattle.b1_model.specs.declared.events.Phase.TheVariants.{Committing, Dropping, Reaping}
-use Rattle.b1_model.specs.declared.records.Call.{Call}
 use Rattle.b1_model.specs.Names.{Node}
 use Rattle.b1_model.specs.Ledger.{Table, changed, table_in}
-use Rattle.b1_model.specs.MachineParts.{PeerPart, DriverPart, State}
+use Rattle.b1_model.specs.MachineParts.{DriverPart, State}
 use Rattle.b1_model.specs.MachineDriver.{Turn, Goes, Ends, turn}
-use Rattle.b1_model.specs.MachineTook.{answer_of, is_await, is_again, is_waiting, as_call, call_of, fixed_call, open_by, driver_calls, goes_by, is_done, turned, with_facts, took}
+use Rattle.b1_model.specs.MachineTook.{answer_of, is_await, is_again, as_call, call_of, fixed_call, open_by, driver_calls, goes_by, is_done, turned, with_facts, took}
 use Rattle.b1_model.specs.MachineStep.{Step}
 use Rattle.b1_ledger.proofs.Walks.{table_in-append}
 use Rattle.b1_ledger.proofs.Steps.{quiet_table}
 use Rattle.b1_inv_record.specs.Epochs.{awaits_flush, in_gap}
-use Rattle.b1_inv_notices.proofs.Turns.{doing_in, opened, Parts, parts, going_answer}
+use Rattle.b1_inv_notices.proofs.Turns.{doing_in, opened, parts, going_answer}
 
 module _ (look : Key → List (Option Node)) where
   -- a command with its answer, if that is fixed

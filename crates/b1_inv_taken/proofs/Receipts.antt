@@ -111,13 +111,13 @@ module _ {o : Opening} {s : State} {p : ℕ} {c : Option Command} {t : State} (s
   -- ---- a receipt comes
 
   module _ (recv : going_action step ≡ act.Recv) where
-    starting : ((parts step).phase ≡ Starting) × (step.driver.owed ≡ [])
+    pub starting : ((parts step).phase ≡ Starting) × (step.driver.owed ≡ [])
     starting = subst (RecvPhase (parts step).phase step.driver.owed) recv (recv_phase step.driver (parts step).command (parts step).phase step.driver.owed)
 
-    recv_here : step.at ≡ p
+    pub recv_here : step.at ≡ p
     recv_here = sym (parts step).is_at ∙ ap (peer_of step.driver.me) recv ∙ me_is
 
-    own_peer : IsPeer s p step.peer
+    pub own_peer : IsPeer s p step.peer
     own_peer = subst (λ q. IsPeer s q step.peer) recv_here step.is_peer
 
     no_gap : in_gap step.driver ≡ false
