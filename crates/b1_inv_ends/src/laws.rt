@@ -5,7 +5,8 @@ ghost use Rattle.b1_model.specs.Opening.{IsOpening};
 ghost use Rattle.b1_model.specs.MachineParts.{State};
 ghost use Rattle.b1_model.specs.MachineStep.{Step, opening_state};
 ghost use Rattle.b1_inv.specs.Sound.{IsSound};
-ghost use Rattle.b1_inv_ends.specs.Notices.{OneNotice};
+ghost use Rattle.b1_inv_ends.specs.Notices.{NoticesOnce, OneNotice};
+ghost use Rattle.b1_inv_ends.specs.Refused.{QueuesNeedAll, RefusedLeavesNothing};
 ghost use Rattle.b1_inv_ends.specs.Holders.{HoldersServed, LateByAttach};
 ghost use Rattle.b1_inv_record.specs.Right.{DestructionsRight, IsRight};
 
@@ -28,8 +29,17 @@ pub fn late_holders_are_visited()
     ensures { (o : Opening) (s : State) (p : ℕ) (c : Option Command) (t : State) → IsSound o s → IsRight o s → (step : Step o s p c t) → LateByAttach step }
 {}
 
-/// A destroy notice comes to a queue that has none of its node only while the node isn't destroyed; it leaves only behind
-/// the node's destruction, or by a flush of its queue; and a destroyed node stays destroyed.
+/// No queue has two destroy notices of one node. One comes to a queue that has none of its node only while the node isn't
+/// destroyed; it leaves only behind the node's destruction, or by a flush of its queue; and a destroyed node stays so.
 pub fn each_notice_comes_once()
-    ensures { (o : Opening) (s : State) (p : ℕ) (c : Option Command) (t : State) → IsSound o s → IsRight o s → (step : Step o s p c t) → OneNotice step }
+    ensures once { (o : Opening) (s : State) → IsSound o s → IsRight o s → NoticesOnce s }
+    ensures steps { (o : Opening) (s : State) (p : ℕ) (c : Option Command) (t : State) → IsSound o s → IsRight o s → (step : Step o s p c t) → OneNotice step }
+{}
+
+/// A refused SEND leaves nothing. A staged message is of an open SEND that waits at its place, a committed one of an
+/// accepted place of a sent one; a driver at rest has nothing staged and owes nothing. Each slice that isn't published is
+/// a queued message's, and each record that is neither held nor marked is of a node that a queued message carries.
+pub fn a_refused_send_leaves_nothing()
+    ensures entries { (o : Opening) (s : State) → IsSound o s → IsRight o s → RefusedLeavesNothing s }
+    ensures needed { (o : Opening) (s : State) → IsSound o s → IsRight o s → QueuesNeedAll s }
 {}

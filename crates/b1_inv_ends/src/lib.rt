@@ -4,5 +4,6 @@
 mod laws;
 
 pub use laws::{
-    destructions_stay_right, each_notice_comes_once, holders_are_told, late_holders_are_visited,
+    a_refused_send_leaves_nothing, destructions_stay_right, each_notice_comes_once,
+    holders_are_told, late_holders_are_visited,
 };

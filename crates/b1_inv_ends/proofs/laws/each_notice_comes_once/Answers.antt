@@ -1,5 +1,8 @@
-use Rattle.b1_inv_ends.proofs.Once.{one_notice}
+use Rattle.b1_inv_ends.proofs.Once.{one_notice, notices_once}
 use Rattle.b1_inv_ends.proofs.laws.each_notice_comes_once.Goals as goal
 
-pub returns : goal.returns
-returns c = λ o s p command t sound right step. one_notice sound right step
+pub returns-clause-once : goal.returns-clause-once
+returns-clause-once c = λ o s sound right. notices_once sound right
+
+pub returns-clause-steps : goal.returns-clause-steps
+returns-clause-steps c = λ o s p command t sound right step. one_notice sound right step
