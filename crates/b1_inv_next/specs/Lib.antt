@@ -1,2 +1,11 @@
 pub mod Queued
 pub mod Fronts
+pub use Rattle.b1_inv.specs.Sound
+pub use Rattle.b1_inv.specs.Words
+pub use Rattle.b1_inv_legal.specs.Fronts
+pub use Rattle.b1_inv_record.specs.Right
+pub use Rattle.b1_ledger.specs.Growth
+pub use Rattle.b1_model.specs.Legal
+pub use Rattle.b1_model.specs.MachineOrder
+pub use Rattle.b1_model.specs.MachineParts
+pub use Rattle.b1_model.specs.MachineStep

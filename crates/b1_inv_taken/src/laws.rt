@@ -16,8 +16,8 @@ pub fn old_nodes_stay_destroyed()
         (o : Opening) → IsOpening o → OldNodesDestroyed o (opening_state o)
     }
     ensures kept_OldNodesDestroyed {
-        (o : Opening) (s : State) (p : ℕ) (c : Option Command) (t : State) → IsSound o s → IsRight o s → Step o s p c t
-            → OldNodesDestroyed o t
+        (o : Opening) (s : State) (p : ℕ) (c : Option Command) (t : State) → IsSound o s
+            → IsRight o s → Step o s p c t → OldNodesDestroyed o t
     }
 {}
 
@@ -28,8 +28,8 @@ pub fn taken_notices_stay_received()
         (o : Opening) → IsOpening o → TakenHasReceipt o (opening_state o)
     }
     ensures kept_TakenHasReceipt {
-        (o : Opening) (s : State) (p : ℕ) (c : Option Command) (t : State) → IsSound o s → IsRight o s → Step o s p c t
-            → TakenHasReceipt o t
+        (o : Opening) (s : State) (p : ℕ) (c : Option Command) (t : State) → IsSound o s
+            → IsRight o s → Step o s p c t → TakenHasReceipt o t
     }
 {}
 
@@ -39,7 +39,7 @@ pub fn own_slots_stay_present()
         (o : Opening) → IsOpening o → OwnSlotsPresent o (opening_state o)
     }
     ensures kept_OwnSlotsPresent {
-        (o : Opening) (s : State) (p : ℕ) (c : Option Command) (t : State) → IsSound o s → IsRight o s → Step o s p c t
-            → OwnSlotsPresent o t
+        (o : Opening) (s : State) (p : ℕ) (c : Option Command) (t : State) → IsSound o s
+            → IsRight o s → Step o s p c t → OwnSlotsPresent o t
     }
 {}

@@ -14,8 +14,8 @@ ghost use Rattle.b1_inv_record.specs.Right.{IsRight};
 pub fn every_reached_state_is_right()
     ensures opening { (o : Opening) → IsOpening o → IsRight o (opening_state o) }
     ensures step {
-        (o : Opening) (s : State) (p : ℕ) (c : Option Command) (t : State) → IsSound o s → IsRight o s → Step o s p c t
-            → IsRight o t
+        (o : Opening) (s : State) (p : ℕ) (c : Option Command) (t : State) → IsSound o s
+            → IsRight o s → Step o s p c t → IsRight o t
     }
     ensures reached { (o : Opening) (s : State) → IsOpening o → Reached o s → IsRight o s }
 {}
@@ -24,6 +24,11 @@ pub fn every_reached_state_is_right()
 /// order; and what a peer received is a prefix of it, of what it accepted and what concerned it, with bytes and handles
 /// as they were sent. Where the state is drained, nothing is left to receive.
 pub fn every_reached_record_is_legal()
-    ensures legal { (o : Opening) (s : State) → IsOpening o → Reached o s → Legal o (record_of_state s) }
-    ensures whole { (o : Opening) (s : State) → IsOpening o → Reached o s → Drained s → Whole o (record_of_state s) }
+    ensures legal {
+        (o : Opening) (s : State) → IsOpening o → Reached o s → Legal o (record_of_state s)
+    }
+    ensures whole {
+        (o : Opening) (s : State) → IsOpening o → Reached o s → Drained s
+            → Whole o (record_of_state s)
+    }
 {}

@@ -10,15 +10,15 @@ ghost use Rattle.b1_schedule.specs.Schedule.{IsPlay, IsStall};
 /// memory was wanting.
 pub fn plays_are_legal()
     ensures legal {
-        (o : Opening) (lists : List (List Command)) (turns : List ℕ) (r : Record) → IsOpening o → IsPlay o lists turns r
-            → Legal o r
+        (o : Opening) (lists : List (List Command)) (turns : List ℕ) (r : Record) → IsOpening o
+            → IsPlay o lists turns r → Legal o r
     }
     ensures whole {
-        (o : Opening) (lists : List (List Command)) (turns : List ℕ) (r : Record) → IsOpening o → IsPlay o lists turns r
-            → Whole o r
+        (o : Opening) (lists : List (List Command)) (turns : List ℕ) (r : Record) → IsOpening o
+            → IsPlay o lists turns r → Whole o r
     }
     ensures stalled {
-        (o : Opening) (lists : List (List Command)) (turns waiting : List ℕ) (r : Record) → IsOpening o
-            → IsStall o lists turns waiting r → Legal o r
+        (o : Opening) (lists : List (List Command)) (turns waiting : List ℕ) (r : Record)
+            → IsOpening o → IsStall o lists turns waiting r → Legal o r
     }
 {}

@@ -5,4 +5,7 @@ pub mod Plays
 pub mod Answers
 pub mod Ends
 pub use Rattle.b1_io.specs.Streams
+pub use Rattle.b1_report.specs.Parsing
 pub use Rattle.b1_report.specs.Report
+pub use Rattle.b1_script.specs.Spelling
+pub use Rattle.b1_text_words.specs.Numbers

@@ -1,0 +1,6 @@
+pub use Rattle.b1_inv.specs.Sound
+pub use Rattle.b1_inv_record.specs.Holders
+pub use Rattle.b1_inv_record.specs.Right
+pub use Rattle.b1_model.specs.MachineParts
+pub use Rattle.b1_model.specs.MachineStep
+pub use Rattle.b1_model.specs.Opening
