@@ -1,5 +1,5 @@
 pub mod Queued
-pub mod Fronts
+pub mod Shown
 pub use Rattle.b1_inv.specs.Sound
 pub use Rattle.b1_inv.specs.Words
 pub use Rattle.b1_inv_legal.specs.Fronts

@@ -12,7 +12,7 @@ ghost use Rattle.b1_ledger.specs.Growth.{calls_len};
 ghost use Rattle.b1_inv_record.specs.Right.{IsRight};
 ghost use Rattle.b1_inv_legal.specs.Fronts.{FrontIsNext};
 ghost use Rattle.b1_inv_next.specs.Queued.{Queued};
-ghost use Rattle.b1_inv_next.specs.Fronts.{ShowsRightFront, TakesFront};
+ghost use Rattle.b1_inv_next.specs.Shown.{ShowsRightFront, TakesFront};
 
 /// Whatever a peer takes is its next entry by the record, in key and kind. For whatever a peer may receive next stands
 /// in its queue, or a staged entry below it does.
