@@ -10,7 +10,6 @@ use Rattle.b1_inv.specs.Sound.{IsSound}
 use Rattle.b1_inv_record.specs.Destructions.{own_ref, doomed_key}
 use Rattle.b1_inv_record.specs.Right.{IsRight}
 use Rattle.b1_inv_sends.proofs.StagesKept.{opening_queue}
-use Rattle.b1_inv_record.specs.Numbers.{DestroysOwn}
 use Rattle.b1_inv_destroys.specs.OwnNotices.{OwnKeyed}
 use Rattle.b1_inv_destroys.proofs.Keyed.{AllKeyed, keyed_kept}
 
@@ -20,9 +19,9 @@ keyed_before o s right q x (k, OwnNotice serial index) is has node of even = let
 keyed_before o s right q x (k, ForeignNotice foreign index) is has node of even = let same : foreign ≡ node = cc of in subst (λ n. doomed_key o s n ≡ Some k) same (right.destructions.foreign.queued q index x k foreign is has even)
 keyed_before o s right q x (k, ReleaseNotice serial) is has node of even = absurd (cc of)
 
-module _ {o : Opening} {s : State} {p : ℕ} {c : Option Command} {t : State} (sound : IsSound o s) (right : IsRight o s) (own : DestroysOwn s) (step : Step o s p c t) where
+module _ {o : Opening} {s : State} {p : ℕ} {c : Option Command} {t : State} (sound : IsSound o s) (right : IsRight o s) (step : Step o s p c t) where
   pub keyed_after : AllKeyed o t
-  keyed_after = keyed_kept sound right.destructions.dying step own (keyed_before o s right)
+  keyed_after = keyed_kept sound right.destructions.dying step right.destructions.numbers (keyed_before o s right)
 
   pub own_keyed : OwnKeyed o t
   own_keyed q i serial y k is has even = keyed_after q y (k, OwnNotice serial i) is has (own_ref q serial) refl even

@@ -75,7 +75,7 @@ filter_new test e none (n ∷ rest) known = filter_new test e none rest (cond (i
 not_below : (n : ℕ) → nat_lt n n ≡ false
 not_below n = grind arith
 
-one_mild : (ws : List Wire) (p : ℕ) (calls : List Call) (c : Call) → is_flush c.answer ≡ false → made_before ws p (calls ++ c ∷ []) ≡ made_before ws p calls
+pub one_mild : (ws : List Wire) (p : ℕ) (calls : List Call) (c : Call) → is_flush c.answer ≡ false → made_before ws p (calls ++ c ∷ []) ≡ made_before ws p calls
 one_mild ws p calls c mild =
     let epoch : epoch_in 0 (calls ++ c ∷ []) ≡ epoch_in 0 calls = epoch_end 0 calls c ∙ ap (λ b. cond b (suc (epoch_in 0 calls)) (epoch_in 0 calls)) mild in
     ap (λ e. length (filter (λ m. nat_lt m.epoch e) (made_in 0 (wired ws p) (calls ++ c ∷ [])))) epoch
@@ -91,21 +91,21 @@ all_mild ws p (c ∷ rest) calls mild = ap (made_before ws p) (sym (append_assoc
 abbrev pub left_of : Command → Phase → List Call
 left_of command phase = cond (awaits_flush command phase) [] (fixed_call command (answer_of command phase))
 
-abbrev left_turn : Command → Turn → List Call
+abbrev pub left_turn : Command → Turn → List Call
 left_turn command (Goes phase) = left_of command phase
 left_turn command (Ends got) = call_of command got
 
 -- nothing changes, or calls come that are no flush
-abbrev Adds : List Call → List Call → Type 0
+abbrev pub Adds : List Call → List Call → Type 0
 Adds old new = (new ≡ old) ⊎ ((old ≡ []) × Mild new)
 
-abbrev BringsMild : Outcome → Type 0
+abbrev pub BringsMild : Outcome → Type 0
 BringsMild (out.Recv got dead) = is_flush (recv_answer got) ≡ false
 BringsMild (out.Local got) = is_flush got ≡ false
 BringsMild outcome = ⊤
 
 -- a phase whose flush isn't done by this answer
-abbrev NoFlush : Phase → Outcome → Type 0
+abbrev pub NoFlush : Phase → Outcome → Type 0
 NoFlush (Flushing stamp) (out.Flush dead) = ⊥
 NoFlush phase outcome = ⊤
 
@@ -197,7 +197,7 @@ module _ (command : Command) where
   add_started (out.Local got) brings = inr (refl, mild_call got brings)
   add_started outcome brings = inl refl
 
-  add_turn : (me : ℕ) (phase : Phase) (outcome : Outcome) → NoFlush phase outcome → BringsMild outcome → Adds (left_of command phase) (left_turn command (turn me command phase outcome))
+  pub add_turn : (me : ℕ) (phase : Phase) (outcome : Outcome) → NoFlush phase outcome → BringsMild outcome → Adds (left_of command phase) (left_turn command (turn me command phase outcome))
   add_turn me Starting outcome none brings = add_started outcome brings
   add_turn me (Staging begun places collected) (out.Stage (Ok clock)) none brings = add_staging begun (places ++ None ∷ []) _
   add_turn me (Staging begun places collected) (out.Stage (Err r)) none brings = add_place r begun places collected (send_of command).go_on
@@ -274,7 +274,7 @@ module _ (x : PeerPart) where
   destroy_mild (Some r) doomed = tt
   destroy_mild None doomed = tt
 
-brings_mild : (o : Opening) (memory : Bool) (d : DriverPart) (one : Doing) (action : Action) (x : PeerPart) → BringsMild (happens o memory d one action x).0
+pub brings_mild : (o : Opening) (memory : Bool) (d : DriverPart) (one : Doing) (action : Action) (x : PeerPart) → BringsMild (happens o memory d one action x).0
 brings_mild o memory d one act.Recv x = recv_mild x (received x)
 brings_mild o memory d one act.Local x = local_mild x d.shut one.command
 brings_mild o memory d one act.Begin x = begin_mild x (send_refusal x (send_of one.command)) memory (send_of one.command)
@@ -286,7 +286,7 @@ abbrev pub is_flush_action : Action → Bool
 is_flush_action act.Flush = true
 is_flush_action action = false
 
-no_flush : (o : Opening) (memory : Bool) (d : DriverPart) (command : Command) (phase : Phase) (owed : List OwedDrop) (x : PeerPart) → is_flush_action (next_action (opened d command phase owed)) ≡ false → NoFlush phase (answered o memory d command phase owed x).0
+pub no_flush : (o : Opening) (memory : Bool) (d : DriverPart) (command : Command) (phase : Phase) (owed : List OwedDrop) (x : PeerPart) → is_flush_action (next_action (opened d command phase owed)) ≡ false → NoFlush phase (answered o memory d command phase owed x).0
 no_flush o memory d command (Flushing stamp) [] x is = absurd (cc is)
 no_flush o memory d command (Flushing stamp) (one ∷ rest) x is = tt
 no_flush o memory d command phase owed x is = tt
@@ -303,7 +303,7 @@ module _ {o : Opening} {s : State} {p : ℕ} {c : Option Command} {t : State} (s
   abbrev new_left : List Call
   new_left = left_turn (parts step).command (turn step.driver.me (parts step).command (parts step).phase (going_answer step))
 
-  flushed_after : flushed_calls step.new_driver ≡ step.driver.calls ++ new_left
+  pub flushed_after : flushed_calls step.new_driver ≡ step.driver.calls ++ new_left
   flushed_after =
       ap flushed_calls (sym (parts step).is_driver)
       ∙ flushed_turned (parts step).command (with_facts (going step) (going_doing step) (going_answer step)) (turn step.driver.me (parts step).command (parts step).phase (going_answer step))

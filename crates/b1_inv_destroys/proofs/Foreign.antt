@@ -132,12 +132,13 @@ made_ok number x all = elim (is_own number) as (λ b. AllOk (λ node. ⊥) (cond
 held_ok : (node : NodeRef) (x : PeerPart) → AllOk (λ n. ⊥) x.handles → AllOk (λ n. ⊥) (wire_held node x).handles
 held_ok node x all = ok_made (λ n. ⊥) node (more_held (next_number x.given)) (λ h is ok. ok) (λ is. absurd (cc is)) x.handles all
 
+-- no record is dead when a bus begins
+pub none_dead : (o : Opening) (q : ℕ) (x : PeerPart) → IsPeer (opening_state o) q x → (h : HandleRecord) → Has x.handles h → h.dead ≡ true → ⊥
+none_dead o q x is h has dead = (opening_each (λ y. AllOk (λ node. ⊥) y.handles) made_ok (λ node dest y all. all) held_ok o (λ me spec g there. absurd there) q x is h has dead).0
+
 pub foreign_begins : (o : Opening) → ForeignNoticeRight o (opening_state o)
 foreign_begins o = record {
   queued = λ q i x k node is has even. absurd (subst (λ queue. Has queue (k, ForeignNotice node i)) (opening_queue o q x is) has);
-  dead = λ q x h is has dead. absurd (none q x is h has dead);
-  apart = λ q x h is has dead. absurd (none q x is h has dead);
+  dead = λ q x h is has dead. absurd (none_dead o q x is h has dead);
+  apart = λ q x h is has dead. absurd (none_dead o q x is h has dead);
 }
-  where
-    none : (q : ℕ) (x : PeerPart) → IsPeer (opening_state o) q x → (h : HandleRecord) → Has x.handles h → h.dead ≡ true → ⊥
-    none q x is h has dead = (opening_each (λ y. AllOk (λ node. ⊥) y.handles) made_ok (λ node dest y all. all) held_ok o (λ me spec g there. absurd there) q x is h has dead).0

@@ -130,7 +130,7 @@ discard_nodes (OwnNotice serial index) x = refl
 discard_nodes (ForeignNotice node index) x = refl
 discard_nodes (ReleaseNotice serial) x = refl
 
-discards_nodes : (es : List (Key × Entry)) (x : PeerPart) → (fold (λ z f. discarded z f.1) x es).nodes ≡ x.nodes
+pub discards_nodes : (es : List (Key × Entry)) (x : PeerPart) → (fold (λ z f. discarded z f.1) x es).nodes ≡ x.nodes
 discards_nodes [] x = refl
 discards_nodes (f ∷ rest) x = discards_nodes rest (discarded x f.1) ∙ discard_nodes f.1 x
 
@@ -144,7 +144,7 @@ slot_nodes a node slot.Attached = reference_nodes (record_or_none node a.part.ha
 slot_nodes a node slot.Own = refl
 slot_nodes a node slot.Void = refl
 
-slots_nodes : (ss : List (NodeRef × Slot)) (a : Arriving) → (fold slot_arrives a ss).part.nodes ≡ a.part.nodes
+pub slots_nodes : (ss : List (NodeRef × Slot)) (a : Arriving) → (fold slot_arrives a ss).part.nodes ≡ a.part.nodes
 slots_nodes [] a = refl
 slots_nodes ((node, s) ∷ rest) a = slots_nodes rest (slot_arrives a (node, s)) ∙ slot_nodes a node s
 

@@ -152,7 +152,7 @@ module _ (N : Type 0) where
 -- ---- events
 
 -- a list that isn't refused names own numbers alone
-all_own : (numbers : List ℕ) → list_any (λ n. not (is_own n)) numbers ≡ false → list_all is_own numbers ≡ true
+pub all_own : (numbers : List ℕ) → list_any (λ n. not (is_own n)) numbers ≡ false → list_all is_own numbers ≡ true
 all_own [] none = refl
 all_own (n ∷ rest) none = by (is_own n) (all_own rest) none
   where
@@ -166,14 +166,14 @@ third true b c d is = absurd (cc is)
 third false true c d is = absurd (cc is)
 third false false true d is = absurd (cc is)
 
-not_bad : (x : PeerPart) (numbers : List ℕ) → destroy_refusal x numbers ≡ None → is_bad_destroy numbers ≡ false
+pub not_bad : (x : PeerPart) (numbers : List ℕ) → destroy_refusal x numbers ≡ None → is_bad_destroy numbers ≡ false
 not_bad x numbers none = by (is_bad_destroy numbers) refl
   where
     by : (b : Bool) → is_bad_destroy numbers ≡ b → is_bad_destroy numbers ≡ false
     by false is = is
     by true is = absurd (cc (sym (rw is at none)))
 
-begun_own : (command : Command) (x : PeerPart) → begin_refusal command x ≡ None → names_own command ≡ true
+pub begun_own : (command : Command) (x : PeerPart) → begin_refusal command x ≡ None → names_own command ≡ true
 begun_own (cmd.Destroy numbers) x none = all_own numbers (third (length numbers == 0) (nat_lt MOST_DESTINATIONS (length numbers)) (list_any (λ n. not (is_own n)) numbers) (has_repeat numbers) (not_bad x numbers none))
 begun_own command x none = refl
 

@@ -41,7 +41,7 @@ module _ {o : Opening} {s : State} {p : ℕ} {c : Option Command} {t : State} (s
   pub as_many : length s.peers ≡ length s.drivers
   as_many = sound.numbered.as_many_peers ∙ sym sound.numbered.as_many_drivers
 
-  as_many_after : length t.peers ≡ length t.drivers
+  pub as_many_after : length t.peers ≡ length t.drivers
   as_many_after = as_many_peers step ∙ as_many ∙ sym (as_many_drivers step)
 
   by_driver : (q : ℕ) → (q ≡ p) ⊎ (q ≢ p) → MoreCalls (calls_by (slice_get s.drivers q)) (calls_by (slice_get t.drivers q))

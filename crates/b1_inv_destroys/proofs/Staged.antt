@@ -38,7 +38,7 @@ Queue = List (Key × Entry)
 
 -- ---- queues
 
-own_stays : (x : PeerPart) (here : ℕ) (serials : List ℕ) (queue : Queue) (k : Key) (serial i : ℕ) → Has queue (k, OwnNotice serial i) → Has (with_own_notices x here serials queue) (k, OwnNotice serial i)
+pub own_stays : (x : PeerPart) (here : ℕ) (serials : List ℕ) (queue : Queue) (k : Key) (serial i : ℕ) → Has queue (k, OwnNotice serial i) → Has (with_own_notices x here serials queue) (k, OwnNotice serial i)
 own_stays x here [] queue k serial i has = has
 own_stays x here (one ∷ rest) queue k serial i has =
     own_stays x (here + 1) rest _ k serial i

@@ -288,10 +288,10 @@ module _ {o : Opening} {s : State} {p : ℕ} {c : Option Command} {t : State} (s
 
 -- ---- the opening
 
-made_untaken : (number : ℕ) (x : PeerPart) → ((serial : ℕ) → (node_at x serial).taken ≡ false) → (serial : ℕ) → (node_at (wire_made number x) serial).taken ≡ false
+pub made_untaken : (number : ℕ) (x : PeerPart) → ((serial : ℕ) → (node_at x serial).taken ≡ false) → (serial : ℕ) → (node_at (wire_made number x) serial).taken ≡ false
 made_untaken number x none = elim (is_own number) as (λ b. (serial : ℕ) → (node_at (cond b (record x { nodes = with_made x.peers number x.nodes }) x) serial).taken ≡ false) [ true ↦ λ serial. made_same x.peers number x.nodes serial ∙ none serial | false ↦ none ]
 
-counted_untaken : (node : NodeRef) (dest : ℕ) (x : PeerPart) → ((serial : ℕ) → (node_at x serial).taken ≡ false) → (serial : ℕ) → (node_at (wire_counted node dest x) serial).taken ≡ false
+pub counted_untaken : (node : NodeRef) (dest : ℕ) (x : PeerPart) → ((serial : ℕ) → (node_at x serial).taken ≡ false) → (serial : ℕ) → (node_at (wire_counted node dest x) serial).taken ≡ false
 counted_untaken node dest x none serial = with_same (counted dest) (λ n. refl) x.nodes node.serial serial ∙ none serial
 
 pub taken_begins : (o : Opening) → TakenDestroyed (opening_state o)

@@ -20,7 +20,7 @@ pub fn destructions_stay_own()
 /// records of destroyed nodes without a queued notice; every bus begins so.
 pub fn notices_of_others_stay_right()
     ensures opening_ForeignNoticeRight { (o : Opening) → IsOpening o → ForeignNoticeRight o (opening_state o) }
-    ensures kept_ForeignNoticeRight { (o : Opening) (s : State) (p : ℕ) (c : Option Command) (t : State) → IsSound o s → IsRight o s → DestroysOwn s → Step o s p c t → ForeignNoticeRight o t }
+    ensures kept_ForeignNoticeRight { (o : Opening) (s : State) (p : ℕ) (c : Option Command) (t : State) → IsSound o s → IsRight o s → Step o s p c t → ForeignNoticeRight o t }
 {}
 
 /// A step keeps own notices staged at their places until the commit at their own peer, and committed ones under the
@@ -28,7 +28,7 @@ pub fn notices_of_others_stay_right()
 /// the part's epoch; and nodes whose notice was taken destroyed. Every bus begins so.
 pub fn own_notices_stay_right()
     ensures opening_OwnKeyed { (o : Opening) → IsOpening o → OwnKeyed o (opening_state o) }
-    ensures kept_OwnKeyed { (o : Opening) (s : State) (p : ℕ) (c : Option Command) (t : State) → IsSound o s → IsRight o s → DestroysOwn s → Step o s p c t → OwnKeyed o t }
+    ensures kept_OwnKeyed { (o : Opening) (s : State) (p : ℕ) (c : Option Command) (t : State) → IsSound o s → IsRight o s → Step o s p c t → OwnKeyed o t }
     ensures opening_OwnOnce { (o : Opening) → IsOpening o → OwnOnce (opening_state o) }
     ensures kept_OwnOnce { (o : Opening) (s : State) (p : ℕ) (c : Option Command) (t : State) → IsSound o s → IsRight o s → Step o s p c t → OwnOnce t }
     ensures opening_OwnUntaken { (o : Opening) → IsOpening o → OwnUntaken (opening_state o) }

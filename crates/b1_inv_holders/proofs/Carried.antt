@@ -38,7 +38,8 @@ use Rattle.b1_inv_notices.proofs.Turns.{opened, answered, took_leaves, parts, go
 use Rattle.b1_inv_cover.proofs.Stamped.{same_peer_at}
 use Rattle.b1_inv_holders.proofs.Counted.{IsAttached, driver_slots, cond_true, cond_false, carries_data, message_is, entry_counted}
 use Rattle.b1_inv_holders.proofs.Held.{at_neither, at_owner}
-use Rattle.b1_inv_holders.proofs.SlotTurns.{NewSlot, SlotIn, in_none, slot_turn}
+use Rattle.b1_inv_holders.proofs.SlotTurns.{NewSlot}
+use Rattle.b1_inv_holders.proofs.Filled.{filled_from}
 
 pub apart_slots : slot.Unattached ≢ slot.Attached
 apart_slots is = absurd (cc is)
@@ -105,46 +106,9 @@ module _ {o : Opening} {s : State} {p : ℕ} {c : Option Command} {t : State} (s
   abbrev pub Newly : ℕ → ℕ → ℕ → Type 0
   Newly at j collected = NewSlot slot.Attached apart_slots (parts step).phase (going_answer step) at j collected
 
-  turned_slot : (at j : ℕ) → SlotIn slot.Attached apart_slots (parts step).command (parts step).phase (going_answer step) at j step.new_driver.doing
-  turned_slot at j =
-      subst (λ e. SlotIn slot.Attached apart_slots (parts step).command (parts step).phase (going_answer step) at j e.doing) (parts step).is_driver
-      (took_leaves (SlotIn slot.Attached apart_slots (parts step).command (parts step).phase (going_answer step) at j) (parts step).command (λ phase may h. in_none slot.Attached apart_slots (parts step).command (parts step).phase (going_answer step) at j) step.driver (parts step).phase step.driver.owed (going_answer step)
-      (slot_turn slot.Attached apart_slots (parts step).command at j step.driver.me (parts step).phase (going_answer step)))
-
-  abbrev Before : ℕ → ℕ → ℕ → Type 0
-  Before origin at j = IsAttached (driver_slots (slice_get s.drivers origin) at) j ⊎ ((origin ≡ p) × (collected : ℕ) × Newly at j collected)
-
-  open_slots : (origin at j : ℕ) → origin ≡ p → IsAttached (slots_at (parts step).phase at) j → IsAttached (driver_slots (slice_get s.drivers origin) at) j
-  open_slots origin at j here is =
-      elim (parts step).was [
-        | inl open_is ↦ ap (λ z. slice_get (driver_slots z at) j) (subst (λ r. IsDriver s r step.driver) (sym here) step.is_driver) ∙ ap (λ z. slice_get (elim z [ None ↦ [] | Some doing ↦ slots_at doing.phase at ]) j) open_is ∙ is
-        | inr new ↦ let never : slice_get (slots_at Starting at) j ≡ Some slot.Attached = ap (λ phase. slice_get (slots_at phase at) j) (sym new.1) ∙ is in absurd (cc never)
-      ]
-
-  by_doing : (origin at j : ℕ) (doing : Option Doing) → origin ≡ p → step.new_driver.doing ≡ doing → IsAttached (elim doing [ None ↦ [] | Some one ↦ slots_at one.phase at ]) j → Before origin at j
-  by_doing origin at j None here is slot_is = absurd (cc slot_is)
-  by_doing origin at j (Some one) here is slot_is = elim (turned_slot at j one is slot_is).2 [ inl old ↦ inl (open_slots origin at j here old) | inr new ↦ inr (here, collected_of one.phase, new) ]
-
-  by_driver : (origin at j : ℕ) (found : Option DriverPart) → slice_get t.drivers origin ≡ found → IsAttached (driver_slots found at) j → Before origin at j
-  by_driver origin at j None is slot_is = absurd (cc slot_is)
-  by_driver origin at j (Some e) is slot_is =
-      elim (driver_cases step origin e is) [
-        | inr same ↦ inl (ap (λ z. slice_get (driver_slots z at) j) same.1 ∙ slot_is)
-        | inl own ↦ by_doing origin at j step.new_driver.doing own.0 refl (subst (λ d. IsAttached (driver_slots (Some d) at) j) own.1 slot_is)
-      ]
-
   -- a counted reference of an entry was one before, or the event attached it
   pub slots_from : (f : Key × Entry) (j : ℕ) → IsAttached (slots_now t f) j → IsAttached (slots_now s f) j ⊎ ((is_staged f ≡ true) × (f.0.origin ≡ p) × (collected : ℕ) × Newly f.0.index j collected)
-  slots_from f j is = by (is_staged f) refl
-    where
-      by : (b : Bool) → is_staged f ≡ b → IsAttached (slots_now s f) j ⊎ ((is_staged f ≡ true) × (f.0.origin ≡ p) × (collected : ℕ) × Newly f.0.index j collected)
-      by false even =
-          inl (ap (λ l. slice_get l j) (cond_false (is_staged f) (driver_slots (slice_get s.drivers f.0.origin) f.0.index) (slots_of f.1) even ∙ sym (cond_false (is_staged f) (driver_slots (slice_get t.drivers f.0.origin) f.0.index) (slots_of f.1) even)) ∙ is)
-      by true odd =
-          elim (by_driver f.0.origin f.0.index j (slice_get t.drivers f.0.origin) refl (ap (λ l. slice_get l j) (sym (cond_true (is_staged f) (driver_slots (slice_get t.drivers f.0.origin) f.0.index) (slots_of f.1) odd)) ∙ is)) [
-            | inl old ↦ inl (ap (λ l. slice_get l j) (cond_true (is_staged f) (driver_slots (slice_get s.drivers f.0.origin) f.0.index) (slots_of f.1) odd) ∙ old)
-            | inr new ↦ inr (odd, new.0, new.1, new.2)
-          ]
+  slots_from f j is = filled_from slot.Attached apart_slots step f j is
 
   -- ---- where the event isn't at the holder
 

@@ -46,7 +46,7 @@ use Rattle.b1_inv_holders.proofs.Visits.{Flagged, still_flagged, visit_flags, vi
 
 -- ---- phases
 
-left_unowed : (phase : Phase) (q : ℕ) → Has (left_of phase) q → may_owe phase ≡ false
+pub left_unowed : (phase : Phase) (q : ℕ) → Has (left_of phase) q → may_owe phase ≡ false
 left_unowed (Visiting d left) q h = refl
 left_unowed phase q h = absurd h
 
@@ -55,12 +55,12 @@ next_visit d command (Visiting e left) [] q h none = refl
 next_visit d command (Visiting e left) (one ∷ rest) q h none = absurd (cc none)
 next_visit d command phase owed q h none = absurd h
 
-dying_doomed : (phase : Phase) (serial : ℕ) → Has (dying_of phase) serial → Has (doomed_of phase) serial
+pub dying_doomed : (phase : Phase) (serial : ℕ) → Has (dying_of phase) serial → Has (doomed_of phase) serial
 dying_doomed (Visiting d left) serial h = h
 dying_doomed (Dooming d) serial h = h
 dying_doomed phase serial h = absurd h
 
-left_to_visit : (q : ℕ) (doing : Option Doing) → LeftIn q doing → Has (elim doing [ None ↦ [] | Some one ↦ left_of one.phase ]) q
+pub left_to_visit : (q : ℕ) (doing : Option Doing) → LeftIn q doing → Has (elim doing [ None ↦ [] | Some one ↦ left_of one.phase ]) q
 left_to_visit q None h = absurd h
 left_to_visit q (Some one) h = h
 
@@ -71,7 +71,7 @@ attach_late attach.Counted x serial dest q h = elim (is_dying (node_at x serial)
 attach_late attach.Own x serial dest q h = h
 attach_late (attach.Void stamp) x serial dest q h = h
 
-late_grows : (o : Opening) (memory : Bool) (d : DriverPart) (doing : Doing) (action : Action) (x : PeerPart) (q : ℕ) → dooms action ≡ false → Has x.late q → Has (happens o memory d doing action x).1.late q
+pub late_grows : (o : Opening) (memory : Bool) (d : DriverPart) (doing : Doing) (action : Action) (x : PeerPart) (q : ℕ) → dooms action ≡ false → Has x.late q → Has (happens o memory d doing action x).1.late q
 late_grows o memory d doing act.BeginDestroy x q is h = absurd (cc is)
 late_grows o memory d doing act.StampDestroy x q is h = absurd (cc is)
 late_grows o memory d doing (act.Attach peer serial dest) x q is h = attach_late (attach_answer x serial dest) x serial dest q h
@@ -87,7 +87,7 @@ module _ (o : Opening) (memory : Bool) (d : DriverPart) (command : Command) (x :
   Left phase owed = LeftIn q (took (opened d command phase owed) (answered o memory d command phase owed x).0).doing
 
   -- a late peer is visited then
-  doom_late : (phase : Phase) (owed : List OwedDrop) → dooms (next_action (opened d command phase owed)) ≡ true → Has (dying_of phase) serial → Has x.late q → ((After phase owed).nodes ≡ x.nodes) × Left phase owed
+  pub doom_late : (phase : Phase) (owed : List OwedDrop) → dooms (next_action (opened d command phase owed)) ≡ true → Has (dying_of phase) serial → Has x.late q → ((After phase owed).nodes ≡ x.nodes) × Left phase owed
   doom_late phase (one ∷ rest) is dies h = absurd (cc is)
   doom_late (Dooming e) [] is dies h = by x.late h
     where
@@ -128,7 +128,7 @@ module _ (o : Opening) (memory : Bool) (d : DriverPart) (command : Command) (x :
     at_doom (peer ∷ rest) collected doomed none = refl
 
     -- a destruction begins, and visits the peer
-    doom_begins : (phase : Phase) (owed : List OwedDrop) → dooms (next_action (opened d command phase owed)) ≡ true → DestructionShape x.peers x command phase → DoomBegins phase owed
+    pub doom_begins : (phase : Phase) (owed : List OwedDrop) → dooms (next_action (opened d command phase owed)) ≡ true → DestructionShape x.peers x command phase → DoomBegins phase owed
     doom_begins phase (one ∷ rest) is shape = absurd (cc is)
     doom_begins Starting [] is shape = at_start d.shut command is
       where
@@ -154,11 +154,11 @@ amount_by node found = elim found [ None ↦ 0 | Some x ↦ peer_amount node x ]
 abbrev found_or_none : NodeRef → Option HandleRecord → HandleRecord
 found_or_none node found = elim found [ None ↦ no_record node | Some h ↦ h ]
 
-slots_committed : (b : Bool) (open_slots slots : List Slot) → b ≡ false → cond b open_slots slots ≡ slots
+pub slots_committed : (b : Bool) (open_slots slots : List Slot) → b ≡ false → cond b open_slots slots ≡ slots
 slots_committed true open_slots slots is = absurd (cc is)
 slots_committed false open_slots slots is = refl
 
-dooms_own : (me : ℕ) (action : Action) → dooms action ≡ true → peer_of me action ≡ me
+pub dooms_own : (me : ℕ) (action : Action) → dooms action ≡ true → peer_of me action ≡ me
 dooms_own me act.BeginDestroy is = refl
 dooms_own me act.StampDestroy is = refl
 dooms_own me action is = absurd (cc is)
@@ -179,24 +179,24 @@ module _ {o : Opening} {s : State} {p : ℕ} {c : Option Command} {t : State} (s
 
   -- ---- who is to be visited
 
-  open_visit : (q : ℕ) → Has (to_visit step.driver) q → (step.driver.doing ≡ Some (going_doing step)) × Has (left_of (parts step).phase) q
+  pub open_visit : (q : ℕ) → Has (to_visit step.driver) q → (step.driver.doing ≡ Some (going_doing step)) × Has (left_of (parts step).phase) q
   open_visit q h =
       elim (parts step).was [
         | inl open_is ↦ (open_is, subst (λ doing. Has (elim doing [ None ↦ [] | Some one ↦ left_of one.phase ]) q) open_is h)
         | inr new ↦ absurd (subst (λ doing. Has (elim doing [ None ↦ [] | Some one ↦ left_of one.phase ]) q) new.0 h)
       ]
 
-  visits : (q : ℕ) → Has (to_visit step.driver) q → going_action step ≡ act.Visit (get_or (left_of (parts step).phase) 0 step.driver.me)
+  pub visits : (q : ℕ) → Has (to_visit step.driver) q → going_action step ≡ act.Visit (get_or (left_of (parts step).phase) 0 step.driver.me)
   visits q h = let k = open_visit q h in next_visit step.driver (parts step).command (parts step).phase step.driver.owed q k.1 (unowed (parts step).phase k.0 (left_unowed (parts step).phase q k.1))
 
-  left_after : (q : ℕ) → Has (to_visit step.driver) q → q ≢ step.at → Has (to_visit step.new_driver) q
+  pub left_after : (q : ℕ) → Has (to_visit step.driver) q → q ≢ step.at → Has (to_visit step.new_driver) q
   left_after q h apart =
       let at : get_or (left_of (parts step).phase) 0 step.driver.me ≡ step.at = ap (peer_of step.driver.me) (sym (visits q h)) ∙ (parts step).is_at in
       left_to_visit q step.new_driver.doing (subst (λ e. LeftIn q e.doing) (parts step).is_driver
       (took_leaves (LeftIn q) (parts step).command (left_ends (parts step).command q) step.driver (parts step).phase step.driver.owed (going_answer step)
       (left_turn (parts step).command q step.driver.me (parts step).phase (going_answer step) (λ same. apart (same ∙ at)) (open_visit q h).1)))
 
-  doomed_here : (y : PeerPart) (serial : ℕ) → IsPeer s p y → is_dying (node_at y serial).state ≡ true → Has (dying_of (parts step).phase) serial
+  pub doomed_here : (y : PeerPart) (serial : ℕ) → IsPeer s p y → is_dying (node_at y serial).state ≡ true → Has (dying_of (parts step).phase) serial
   doomed_here y serial is dies =
       let now = sound.notices.dying p step.driver y serial step.is_driver is dies in
       elim (parts step).was [
@@ -242,10 +242,10 @@ module _ {o : Opening} {s : State} {p : ℕ} {c : Option Command} {t : State} (s
       ap (λ w. (node_at w node.serial).state) (is ∙ sym (parts step).is_peer)
       ∙ (nodes_kept o step.local.memory (going step) (going_doing step) (going_action step) step.peer calm).state node.serial (omega (arith, within, same))
 
-  doomer : dooms (going_action step) ≡ true → step.at ≡ p
+  pub doomer : dooms (going_action step) ≡ true → step.at ≡ p
   doomer is = sym (parts step).is_at ∙ dooms_own step.driver.me (going_action step) is ∙ is_me
 
-  late_after : (q : ℕ) (y : PeerPart) → y ≡ step.new_peer → dooms (going_action step) ≡ false → Has step.peer.late q → Has y.late q
+  pub late_after : (q : ℕ) (y : PeerPart) → y ≡ step.new_peer → dooms (going_action step) ≡ false → Has step.peer.late q → Has y.late q
   late_after q y is calm h = subst (λ z. Has z.late q) ((parts step).is_peer ∙ sym is) (late_grows o step.local.memory (going step) (going_doing step) (going_action step) step.peer q calm h)
 
   -- where the event is at the holder

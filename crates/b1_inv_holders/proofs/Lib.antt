@@ -1,5 +1,6 @@
 pub mod Ended
 pub mod SlotTurns
+pub mod Filled
 pub mod Void
 pub mod Records
 pub mod Visits

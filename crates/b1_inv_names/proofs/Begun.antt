@@ -56,16 +56,20 @@ as_long : (nodes : List NodePart) → length nodes ≡ length (node_numbers node
 as_long [] = refl
 as_long (x ∷ xs) = ap suc (as_long xs)
 
-serial_by : ℕ → List ℕ → Option ℕ
+pub serial_by : ℕ → List ℕ → Option ℕ
 serial_by n numbers = cond (nat_lt (position_or_len (λ m. m == n) numbers) (length numbers)) (Some (position_or_len (λ m. m == n) numbers)) None
 
-serial_is : (n : ℕ) (nodes : List NodePart) → serial_of n nodes ≡ serial_by n (node_numbers nodes)
+pub serial_is : (n : ℕ) (nodes : List NodePart) → serial_of n nodes ≡ serial_by n (node_numbers nodes)
 unfolding serial_by
 serial_is n nodes =
     ap (λ i. cond (nat_lt i (length nodes)) (Some i) None) (place_same n nodes)
     ∙ ap (λ l. cond (nat_lt (position_or_len (λ m. m == n) (node_numbers nodes)) l) (Some (position_or_len (λ m. m == n) (node_numbers nodes))) None) (as_long nodes)
 
-facts_numbers : (nodes : List NodePart) → map (λ f. f.0) (map node_facts nodes) ≡ node_numbers nodes
+-- nodes with the same numbers have the same serials
+pub serial_same : (n : ℕ) (ns ms : List NodePart) → node_numbers ms ≡ node_numbers ns → serial_of n ms ≡ serial_of n ns
+serial_same n ns ms same = serial_is n ms ∙ ap (serial_by n) same ∙ sym (serial_is n ns)
+
+pub facts_numbers : (nodes : List NodePart) → map (λ f. f.0) (map node_facts nodes) ≡ node_numbers nodes
 facts_numbers [] = refl
 facts_numbers (n ∷ ns) = ap (λ l. n.number ∷ l) (facts_numbers ns)
 

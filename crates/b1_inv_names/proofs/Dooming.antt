@@ -62,7 +62,7 @@ module _ (state : NodeState) (dead : is_live state ≡ false) where
   still_none [] ns i is = is
   still_none (one ∷ rest) ns i is = still_none rest (with_node one (in_state state) ns) i (live_set ns one i (in_state state (get_or ns one no_node)) dead is)
 
-live_there : (here : ℕ) (ns : List NodePart) (i : ℕ) → is_live (get_or ns i no_node).state ≡ true → Has (live_serials here ns) (here + i) × (i < length ns)
+pub live_there : (here : ℕ) (ns : List NodePart) (i : ℕ) → is_live (get_or ns i no_node).state ≡ true → Has (live_serials here ns) (here + i) × (i < length ns)
 live_there here [] i is = absurd (cc is)
 live_there here (n ∷ ns) zero is = (by (is_live n.state) is, omega arith)
   where
@@ -88,7 +88,7 @@ all_doomed ns i = by (is_live (get_or ns i no_node).state) refl
 -- ---- turns
 
 -- a turn leads to a phase without a stamp only from one
-abbrev From : Bool → Turn → Type 0
+abbrev pub From : Bool → Turn → Type 0
 From b (Goes phase) = is_ending phase ≡ true → b ≡ true
 From b (Ends got) = ⊤
 
@@ -137,11 +137,11 @@ from_commits command d stamp at = by (nat_lt at (length d.staged)) (is_flushing 
     by false true = λ is. refl
     by false false = tt
 
-abbrev is_starting : Phase → Bool
+abbrev pub is_starting : Phase → Bool
 is_starting Starting = true
 is_starting phase = false
 
-from_turn : (me : ℕ) (command : Command) (phase : Phase) (outcome : Outcome) → is_starting phase ≡ false → From (is_ending phase) (turn me command phase outcome)
+pub from_turn : (me : ℕ) (command : Command) (phase : Phase) (outcome : Outcome) → is_starting phase ≡ false → From (is_ending phase) (turn me command phase outcome)
 from_turn me command Starting outcome on = absurd (cc on)
 from_turn me command (Staging begun places collected) (out.Stage (Ok clock)) on = from_staging begun (places ++ None ∷ []) (max collected clock)
 from_turn me command (Staging begun places collected) (out.Stage (Err r)) on = from_place begun places collected r (send_of command).go_on

@@ -22,10 +22,10 @@ use Rattle.b1_inv_names.proofs.Numbers.{joined, all_joined, name_numbers, new_na
 use Rattle.b1_inv_names.proofs.Made.{numbers_of, done_numbers, first_numbers, all_right}
 
 -- the numbers at a part, if there is one
-abbrev numbers_at : ℕ → List PeerPart → Option (List ℕ)
+abbrev pub numbers_at : ℕ → List PeerPart → Option (List ℕ)
 numbers_at q xs = option_map numbers_of (slice_get xs q)
 
-made_part : (number : ℕ) (x : PeerPart) → numbers_of (wire_made number x) ≡ joined (numbers_of x) number
+pub made_part : (number : ℕ) (x : PeerPart) → numbers_of (wire_made number x) ≡ joined (numbers_of x) number
 made_part number x = by (is_own number) refl
   where
     by : (b : Bool) → is_own number ≡ b → numbers_of (cond b (record x { nodes = with_made x.peers number x.nodes }) x) ≡ joined (numbers_of x) number
@@ -44,10 +44,10 @@ same_at f keeps xs i q = ap (option_map numbers_of) (read_part xs i q f) ∙ by 
     by None = refl
     by (Some x) = ap Some (one (q == i) x)
 
-abbrev joins_at : Bool → ℕ → List ℕ → List ℕ
+abbrev pub joins_at : Bool → ℕ → List ℕ → List ℕ
 joins_at b number ns = cond b (joined ns number) ns
 
-made_at : (xs : List PeerPart) (i q number : ℕ) → numbers_at q (with_part i (wire_made number) xs) ≡ option_map (joins_at (i == q) number) (numbers_at q xs)
+pub made_at : (xs : List PeerPart) (i q number : ℕ) → numbers_at q (with_part i (wire_made number) xs) ≡ option_map (joins_at (i == q) number) (numbers_at q xs)
 made_at xs i q number = ap (option_map numbers_of) (read_part xs i q (wire_made number)) ∙ by (slice_get xs q) ∙ ap (λ b. option_map (joins_at b number) (numbers_at q xs)) turn
   where
     turn : (q == i) ≡ (i == q)
@@ -67,10 +67,10 @@ wired_by made w (Some n) q =
     same_at (wire_held n) (λ x. refl) (with_part n.owner (wire_counted n w.to) made) w.to q
     ∙ same_at (wire_counted n w.to) (λ x. node_same (counted w.to) (λ m. refl) n.serial x.nodes) made n.owner q
 
-wired_at : (xs : List PeerPart) (w : Wire) (q : ℕ) → numbers_at q (wired xs w) ≡ option_map (joins_at (w.from == q) w.number) (numbers_at q xs)
+pub wired_at : (xs : List PeerPart) (w : Wire) (q : ℕ) → numbers_at q (wired xs w) ≡ option_map (joins_at (w.from == q) w.number) (numbers_at q xs)
 wired_at xs w q = wired_by (with_part w.from (wire_made w.number) xs) w (node_named (get_or (with_part w.from (wire_made w.number) xs) w.from no_peer) w.number) q ∙ made_at xs w.from q w.number
 
-abbrev numbers_from : ℕ → List Wire → List ℕ
+abbrev pub numbers_from : ℕ → List Wire → List ℕ
 numbers_from q ws = map (λ w. w.number) (filter (λ w. w.from == q) ws)
 
 all_wired : (ws : List Wire) (xs : List PeerPart) (q : ℕ) → numbers_at q (fold wired xs ws) ≡ option_map (λ ns. all_joined ns (numbers_from q ws)) (numbers_at q xs)
@@ -89,7 +89,7 @@ all_wired (w ∷ rest) xs q = all_wired rest (wired xs w) q ∙ ap (option_map (
     by None = refl
     by (Some ns) = ap Some (one (w.from == q) ns)
 
-none_before : (o : Opening) (here : ℕ) (specs : List PeerSpec) (q : ℕ) (ns : List ℕ) → numbers_at q (peers_before o here specs) ≡ Some ns → ns ≡ []
+pub none_before : (o : Opening) (here : ℕ) (specs : List PeerSpec) (q : ℕ) (ns : List ℕ) → numbers_at q (peers_before o here specs) ≡ Some ns → ns ≡ []
 none_before o here [] q ns is = absurd (cc is)
 none_before o here (spec ∷ rest) zero ns is = sym (same_Some [] ns is)
 none_before o here (spec ∷ rest) (suc q) ns is = none_before o (here + 1) rest q ns is

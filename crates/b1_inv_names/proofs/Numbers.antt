@@ -118,7 +118,7 @@ below_suc a b = elim (cases_lt a b) [
   | inr high ↦ le-ltb (1 + a) (suc b) (omega (arith, high)) ∙ sym (le-ltb a b high)
 ]
 
-same_eq : (m n : ℕ) → (m == n) ≡ (n == m)
+pub same_eq : (m n : ℕ) → (m == n) ≡ (n == m)
 same_eq m n = elim (cases_eq m n) [ inl same ↦ eq-eqb m n same ∙ sym (eq-eqb n m (sym same)) | inr apart ↦ ne_eqb m n apart ∙ sym (ne_eqb n m (λ e. apart (sym e))) ]
 
 pub found_number : (n : ℕ) (nodes : List NodePart) → nat_lt (position_or_len (λ z. z.number == n) nodes) (length nodes) ≡ has_number n (node_numbers nodes)

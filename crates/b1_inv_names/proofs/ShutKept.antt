@@ -112,22 +112,22 @@ none_carried command stamp = refl
 
 -- where a driver is at its flush, all nodes of its peer are destroyed
 module _ {o : Opening} {s : State} (made : MadeNumbers o s) (old : OldNodesDestroyed o s) (p : ℕ) (d : DriverPart) (x : PeerPart) (is_driver : IsDriver s p d) (is_peer : IsPeer s p x) (command : Command) (stamp : Option ℕ) (is_open : d.doing ≡ Some (doing_in command (Flushing stamp))) where
-  calls_are : calls_of (record_of_state s) p ≡ d.calls ++ record { command = as_call command; answer = answer.Reset stamp } ∷ []
+  pub calls_are : calls_of (record_of_state s) p ≡ d.calls ++ record { command = as_call command; answer = answer.Reset stamp } ∷ []
   calls_are = recorded_calls s p x d is_peer is_driver ∙ ap (λ doing. d.calls ++ open_by doing) is_open ∙ ap (λ l. d.calls ++ l) (flush_call command stamp)
 
-  all_first : first_now o s p ≡ length (all_names o.wires (record_of_state s) p)
+  pub all_first : first_now o s p ≡ length (all_names o.wires (record_of_state s) p)
   all_first = ap (made_before o.wires p) calls_are ∙ behind_flush o.wires p d.calls (as_call command) stamp ∙ ap (λ cs. length (made_in 0 (wired o.wires p) cs)) (sym calls_are)
 
   none_new : open_numbers d ≡ []
   none_new = ap (λ doing. elim doing [ None ↦ [] | Some one ↦ carried_open one.command one.phase ]) is_open ∙ none_carried command stamp
 
-  as_many : length x.nodes ≡ first_now o s p
-  as_many =
+  pub as_many_nodes : length x.nodes ≡ first_now o s p
+  as_many_nodes =
       sym (map_length (λ n. n.number) x.nodes) ∙ ap length (made.made p d x is_driver is_peer ∙ ap (λ ns. map (λ m. m.number) (add_new x.epoch (all_names o.wires (record_of_state s) p) ns)) none_new)
       ∙ map_length (λ m. m.number) (all_names o.wires (record_of_state s) p) ∙ sym all_first
 
   pub all_gone : Gone x.nodes
-  all_gone n h = let k = has_serial x.nodes n h in old.destroyed p k.0 x n is_peer k.1 (let low = k.2 in omega (arith, low, as_many))
+  all_gone n h = let k = has_serial x.nodes n h in old.destroyed p k.0 x n is_peer k.1 (let low = k.2 in omega (arith, low, as_many_nodes))
 
 -- ---- a step
 

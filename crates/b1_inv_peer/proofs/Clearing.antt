@@ -24,7 +24,7 @@ held_unexpected node (n ∷ rest) hs up =
     held_unexpected node rest (changed n less_flight hs) (rising_changed n less_flight (λ h. refl) hs up)
     ∙ field_stays (λ h. h.held) 0 unneeded_held (λ m. refl) less_flight (λ h. refl) (λ h. refl) n node hs up
 
-held_discarded : (node : NodeRef) (x : PeerPart) (e : Entry) → Rising x.handles → (record_or_none node (discarded x e).handles).held ≡ (record_or_none node x.handles).held
+pub held_discarded : (node : NodeRef) (x : PeerPart) (e : Entry) → Rising x.handles → (record_or_none node (discarded x e).handles).held ≡ (record_or_none node x.handles).held
 held_discarded node x (Message origin user index serial offset len nodes slots handles payload) up = held_unexpected node (foreign x.me nodes) x.handles up
 held_discarded node x (OwnNotice serial index) up = refl
 held_discarded node x (ForeignNotice other index) up = field_stays (λ h. h.held) 0 unneeded_held (λ m. refl) made_dead (λ h. refl) (λ h. refl) other node x.handles up
@@ -105,7 +105,7 @@ module _ (x : PeerPart) (f : Key × Entry) (rest : Queue) (up : Rising x.handles
     queue_again y (ForeignNotice node index) q r = refl
     queue_again y (ReleaseNotice serial) q r = refl
 
-    queue_is : (without_front x f rest).queue ≡ rest
+    pub queue_is : (without_front x f rest).queue ≡ rest
     queue_is = ap (λ y. y.queue) (queue_discarded x f.1 rest)
 
     start : discarded (record x { queue = drop (length kept) rest }) f.1 ≡ record (without_front x f rest) { queue = drop (length kept) (without_front x f rest).queue }

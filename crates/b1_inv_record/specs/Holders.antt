@@ -22,7 +22,7 @@ use Rattle.b1_model.specs.MachineCounts.{dead_amount}
 use Rattle.b1_model.specs.MachineStep.{record_of_state}
 use Rattle.b1_step.specs.Rights.{Has}
 use Rattle.b1_inv.specs.Words.{IsPeer, IsDriver}
-use Rattle.b1_inv_record.specs.Epochs.{ref_of}
+use Rattle.b1_inv_record.specs.Epochs.{first_done, ref_of}
 
 -- the peers that an open destruction is still to visit
 abbrev pub left_of : Phase → List ℕ
@@ -79,3 +79,8 @@ pub record VoidRight (s : State) : Type 0 where
       → IsPeer s node.owner y → (stamp : ℕ) × ((node_at y node.serial).state ≡ Destroyed stamp) × (stamp ≤ collected_of doing.phase)
   pub queued : (q j : ℕ) (x : PeerPart) (f : Key × Entry) (node : NodeRef) (y : PeerPart) → IsPeer s q x → Has x.queue f → slice_get (carried f.1) j ≡ Some node → slice_get (slots_of f.1) j ≡ Some slot.Void
       → IsPeer s node.owner y → (stamp : ℕ) × ((node_at y node.serial).state ≡ Destroyed stamp) × (stamp < f.0.stamp)
+
+-- an own slot is of a node of the epoch of the part in whose queue its message stands
+pub record OwnSlotsPresent (o : Opening) (s : State) : Type 0 where
+  pub present : (q j : ℕ) (x : PeerPart) (f : Key × Entry) (node : NodeRef) → IsPeer s q x → Has x.queue f
+      → slice_get (carried f.1) j ≡ Some node → slice_get (slots_now s f) j ≡ Some slot.Own → first_done o s q ≤ node.serial

@@ -10,7 +10,7 @@ use Rattle.b1_inv_record.specs.Entries.{PendingIsStaged, QueuedIsPresent, Commit
 use Rattle.b1_inv_record.specs.Dooming.{FlushesDoomAll, FlushCommands, DoomsItsNodes}
 use Rattle.b1_inv_record.specs.Numbers.{DestroysOwn}
 use Rattle.b1_inv_record.specs.Destructions.{DoomKeysRight, DyingIsDoomed, OwnNoticeRight, ForeignNoticeRight, TakenHasReceipt}
-use Rattle.b1_inv_record.specs.Holders.{HolderCovered, SeenTravels, SeenCollected, VoidRight}
+use Rattle.b1_inv_record.specs.Holders.{HolderCovered, SeenTravels, SeenCollected, VoidRight, OwnSlotsPresent}
 
 -- single parts of peers
 pub record PartsRight (s : State) : Type 0 where
@@ -67,6 +67,7 @@ pub record HoldersRight (o : Opening) (s : State) : Type 0 where
   pub travels : SeenTravels o s
   pub collected : SeenCollected o s
   pub void : VoidRight s
+  pub present : OwnSlotsPresent o s
 
 -- a reached state, as its record and its parts see it: the record is legal
 pub record IsRight (o : Opening) (s : State) : Type 0 where

@@ -163,7 +163,7 @@ module _ (o : Opening) where
   first_held node None none = refl
   first_held node (Some x) none = rw (none x refl) refl
 
-  before_wiring : Wiring (length o.peers) [] (peers_before o 0 o.peers)
+  pub before_wiring : Wiring (length o.peers) [] (peers_before o 0 o.peers)
   before_wiring = record {
     count = before_count o 0 o.peers;
     part = λ q x is. let b = before_is o 0 o.peers q x is in subst (Laid (length o.peers) q) (sym b.1) (first_laid q b.0);

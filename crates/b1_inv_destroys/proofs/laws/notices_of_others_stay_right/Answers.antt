@@ -6,4 +6,4 @@ pub returns-clause-opening_ForeignNoticeRight : goal.returns-clause-opening_Fore
 returns-clause-opening_ForeignNoticeRight c = λ o valid. foreign_begins o
 
 pub returns-clause-kept_ForeignNoticeRight : goal.returns-clause-kept_ForeignNoticeRight
-returns-clause-kept_ForeignNoticeRight c = λ o s p command t sound right own step. foreign_kept sound right.destructions.dying step right.destructions.foreign (keyed_before o s right) own (keyed_after sound right own step)
+returns-clause-kept_ForeignNoticeRight c = λ o s p command t sound right step. foreign_kept sound right.destructions.dying step right.destructions.foreign (keyed_before o s right) right.destructions.numbers (keyed_after sound right step)

@@ -8,7 +8,7 @@ pub returns-clause-opening_OwnKeyed : goal.returns-clause-opening_OwnKeyed
 returns-clause-opening_OwnKeyed c = λ o valid. own_keyed_begins o
 
 pub returns-clause-kept_OwnKeyed : goal.returns-clause-kept_OwnKeyed
-returns-clause-kept_OwnKeyed c = λ o s p command t sound right own step. own_keyed sound right own step
+returns-clause-kept_OwnKeyed c = λ o s p command t sound right step. own_keyed sound right step
 
 pub returns-clause-opening_OwnOnce : goal.returns-clause-opening_OwnOnce
 returns-clause-opening_OwnOnce c = λ o valid. once_begins o

@@ -1,0 +1,16 @@
+pub mod Same
+pub mod Fixes
+pub mod Grown
+pub mod Adds
+pub mod NewStamp
+pub mod Named
+pub mod Here
+pub mod Sends
+pub mod Lines
+pub mod Tables
+pub mod Doomed
+pub mod Ends
+pub mod Kept
+pub mod Front
+pub mod Notices
+pub mod Contents

@@ -1,0 +1,12 @@
+pub mod Holds
+pub mod HoldEvents
+pub mod Owes
+pub mod Travelling
+pub mod Lined
+pub mod SeenKept
+pub mod SeenBegins
+pub mod Collecting
+pub mod Begins
+pub mod Blocked
+pub mod CollectedKept
+pub mod Groups

@@ -1,0 +1,17 @@
+pub mod Lines
+pub mod Agrees
+pub mod References
+pub mod Slots
+pub mod Arrives
+pub mod Receives
+pub mod Values
+pub mod Deeds
+pub mod FirstDeeds
+pub mod Apart
+pub mod Plain
+pub mod Grown
+pub mod Kept
+pub mod LinesKept
+pub mod Given
+pub mod Named
+pub mod Begins
