@@ -1,3 +1,4 @@
+pub mod Goes
 pub mod Seen
 pub mod Takes
 pub mod Tells
