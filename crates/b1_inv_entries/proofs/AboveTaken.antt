@@ -14,12 +14,12 @@ use Rattle.b1_model.specs.declared.events.OwedDrop.{OwedDrop}
 use Rattle.b1_model.specs.declared.events.Phase.{Phase}
 use Rattle.b1_model.specs.declared.events.Phase.TheVariants.{Starting, Staging, Unstaging, Attaching, Stamping, Syncing, Committing}
 use Rattle.b1_model.specs.declared.records.Call.{Call}
-use Rattle.b1_model.specs.Names.{calls_of, epoch_at}
-use Rattle.b1_model.specs.Ledger.{got_key}
-use Rattle.b1_model.specs.Legal.{seen_stamp}
 use Rattle.b1_model.specs.declared.answers.Answer.{Answer}
 use Rattle.b1_model.specs.declared.answers.Answer.TheVariants as ans
 use Rattle.b1_model.specs.declared.answers.Receipt.TheVariants as rec
+use Rattle.b1_model.specs.Names.{calls_of, epoch_at}
+use Rattle.b1_model.specs.Ledger.{got_key}
+use Rattle.b1_model.specs.Legal.{seen_stamp}
 use Rattle.b1_model.specs.MachineParts.{PeerPart, DriverPart, State, is_odd}
 use Rattle.b1_model.specs.MachineSend.{stage_refusal}
 use Rattle.b1_model.specs.MachineDriver.{next_action, no_ref, node_of_place, peer_of, send_of}

@@ -54,7 +54,7 @@ called_by : (o : Opening) (q stamp place : ℕ) (doing : Doing) (sending : Sendi
 called_by o q stamp place doing sending k (Message origin user index serial offset len nodes old handles payload) slots m begun at accepted within says (from, index_is, user_is, node, carries, text) =
     let n = get_there sending.begun.to place within in
     let node_is : n.0 ≡ record { owner = q; serial = serial } =
-        sym (get_or_from_slice_get sending.begun.to place n.0 no_ref n.1) ∙ ap (λ i. node_of_place sending.begun.to i) (sym (index_is ∙ at)) ∙ ap (λ b. node_of_place b.to index) (sym begun) ∙ node in (
+    sym (get_or_from_slice_get sending.begun.to place n.0 no_ref n.1) ∙ ap (λ i. node_of_place sending.begun.to i) (sym (index_is ∙ at)) ∙ ap (λ b. node_of_place b.to index) (sym begun) ∙ node in (
       ap (λ places. is_accepted (slice_get places place)) says.places ∙ accepted_same (slice_get sending.places place) ∙ accepted,
       place_named m.to sending.begun.to place n.0 says.to n.1 ∙ ap Some node_is,
       says.carried ∙ ap (map Some) (sym (carries ∙ ap (λ b. b.with) begun)),
@@ -99,8 +99,8 @@ module _ {o : Opening} {s : State} {p : ℕ} {c : Option Command} {t : State} (s
         sent.0,
         ap (message o.wires (record_of_state s) stamp) me_is ∙ sent.1,
         subst (λ n. IsCallOf step.at (record { stamp = stamp; origin = n; index = place }) (with_slots (get_or sending.slots place []) g.1) sent.0) k.origin_is
-        (called_by o step.at stamp place (doing_in (parts step).command (Committing sending stamp place)) sending g.0 g.1 (get_or sending.slots place []) sent.0 refl k.index_is accepted
-        (let many = shape.places in omega (arith, within, many)) sent.2 (subst (λ d. IsMessageOf o step.at d g.0 g.1) same_doing sender.message)),
+            (called_by o step.at stamp place (doing_in (parts step).command (Committing sending stamp place)) sending g.0 g.1 (get_or sending.slots place []) sent.0 refl k.index_is accepted
+            (let many = shape.places in omega (arith, within, many)) sent.2 (subst (λ d. IsMessageOf o step.at d g.0 g.1) same_doing sender.message)),
       )
 
   apart : (f : Key × Entry) (e : Entry) → is_data f.1 ≡ true → f.1 ≡ e → is_data e ≡ false → ⊥

@@ -46,10 +46,10 @@ module _ {o : Opening} {s : State} {p : ℕ} {c : Option Command} {t : State} (s
                 here,
                 last.1,
                 ap (λ calls. epoch_in 0 (take k calls)) own
-                ∙ ap (epoch_in 0) (take-append-le k (calls_of (record_of_state s) q) (new.call ∷ []) low)
-                ∙ ap (λ n. epoch_in 0 (take n (calls_of (record_of_state s) q))) last.0
-                ∙ ap (epoch_in 0) (take-end (calls_of (record_of_state s) q))
-                ∙ ap (epoch_now s) here,
+                    ∙ ap (epoch_in 0) (take-append-le k (calls_of (record_of_state s) q) (new.call ∷ []) low)
+                    ∙ ap (λ n. epoch_in 0 (take n (calls_of (record_of_state s) q))) last.0
+                    ∙ ap (epoch_in 0) (take-end (calls_of (record_of_state s) q))
+                    ∙ ap (epoch_now s) here,
               )
         ]
   ]

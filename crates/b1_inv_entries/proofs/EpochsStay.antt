@@ -2,6 +2,7 @@
 use Rattle.std.proofs.Common.{◌≡◌, refl, sym, ap, subst, ◌∙◌, inl, inr, ℕ, zero, suc, ◌<◌, Bool, true, false, cond, ◌&&◌, not, List, [], ◌∷◌, ◌++◌, length, map, Option, Some, None}
 use Rattle.std.specs.Prelude.{slice_get}
 use Rattle.std.proofs.lemmas.Bool.{cases_eq}
+use Rattle.std.proofs.lemmas.List.{length-map}
 use native.Mathlib.Omega.{arith}
 use Rattle.b1_model.specs.declared.commands.Command.{Command}
 use Rattle.b1_model.specs.declared.commands.Command.TheVariants as cmd
@@ -69,10 +70,6 @@ flush_fixes (cmd.Send c) (Dooming destruction) outcome got fixes is = refl
 flush_fixes command (Dooming destruction) outcome got fixes is = refl
 flush_fixes command phase outcome got fixes is = absurd fixes
 
-map_length : {X : Type 0} (f : X → ℕ) (xs : List X) → length (map f xs) ≡ length xs
-map_length f [] = refl
-map_length f (x ∷ xs) = ap suc (map_length f xs)
-
 module _ {o : Opening} {s : State} {p : ℕ} {c : Option Command} {t : State} (sound : IsSound o s) (right : IsRight o s) (step : Step o s p c t) where
   abbrev old_names : ℕ → List Name
   old_names q = all_names o.wires (record_of_state s) q
@@ -85,9 +82,9 @@ module _ {o : Opening} {s : State} {p : ℕ} {c : Option Command} {t : State} (s
         | inl open_is ↦ ap (λ doing. elim doing [ None ↦ [] | Some one ↦ carried_open one.command one.phase ]) open_is ∙ carried
         | inr none ↦ ap (λ doing. elim doing [ None ↦ [] | Some one ↦ carried_open one.command one.phase ]) none.0
       ] in
-      sym (map_length (λ n. n.number) x.nodes)
+      sym (length-map x.nodes (λ n. n.number))
       ∙ ap length (right.names.made.made p step.driver x step.is_driver is_peer ∙ ap (λ ns. map (λ m. m.number) (add_new x.epoch (old_names p) ns)) numbers)
-      ∙ map_length (λ m. m.number) (old_names p)
+      ∙ length-map (old_names p) (λ m. m.number)
 
   module _ (new : NewCall step) where
     pub new_names : all_names o.wires (record_of_state t) p ≡ add_new (epoch_now s p) (old_names p) (carried_by new.call.command new.call.answer)

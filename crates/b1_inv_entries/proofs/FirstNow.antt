@@ -2,7 +2,7 @@
 use Rattle.std.proofs.Common.{◌≡◌, refl, sym, ap, subst, ◌∙◌, inl, inr, ℕ, suc, ◌<◌, ◌≤◌, Bool, true, false, cond, ◌&&◌, not, nat_lt, List, [], ◌∷◌, ◌++◌, filter, length, map, Option, Some, None, append-nil}
 use Rattle.std.proofs.lemmas.Bool.{lt-ltb}
 use Rattle.std.proofs.lemmas.List.Filters.{length-filter_both}
-use Rattle.std.proofs.lemmas.List.{append_assoc}
+use Rattle.std.proofs.lemmas.List.{append_assoc, length-map}
 use native.Mathlib.Omega.{arith}
 use Rattle.b1_model.specs.declared.commands.Command.{Command}
 use Rattle.b1_model.specs.declared.commands.Command.TheVariants as cmd
@@ -76,10 +76,6 @@ first_now_grows {o = o} {s = s} {t = t} sound step q =
 
 -- ---- at a flush
 
-map_length : {X : Type 0} (f : X → ℕ) (xs : List X) → length (map f xs) ≡ length xs
-map_length f [] = refl
-map_length f (x ∷ xs) = ap suc (map_length f xs)
-
 none_carried : (command : Command) (stamp : Option ℕ) → carried_open command (Flushing stamp) ≡ []
 none_carried (cmd.Send c) stamp = refl
 none_carried command stamp = refl
@@ -104,6 +100,6 @@ module _ {o : Opening} {s : State} (made : MadeNumbers o s) (p : ℕ) (d : Drive
 
   pub flush_first : first_now o s p ≡ length x.nodes
   flush_first =
-      all_first ∙ sym (map_length (λ m. m.number) (all_names o.wires (record_of_state s) p))
+      all_first ∙ sym (length-map (all_names o.wires (record_of_state s) p) (λ m. m.number))
       ∙ ap length (sym (made.made p d x is_driver is_peer ∙ ap (λ ns. map (λ m. m.number) (add_new x.epoch (all_names o.wires (record_of_state s) p) ns)) none_new))
-      ∙ map_length (λ n. n.number) x.nodes
+      ∙ length-map x.nodes (λ n. n.number)

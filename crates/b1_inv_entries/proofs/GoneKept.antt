@@ -90,7 +90,7 @@ module _ (K : NodeRef → Type 0) (o : Opening) (memory : Bool) (d : DriverPart)
   other_dead act.Flush is = λ h there dead. absurd there
   other_dead act.Local is = same_handles act.Local (ap (λ y. y.handles) (changes o memory d doing act.Local x))
 
-recv_is : (action : Action) → is_recv action ≡ true → action ≡ act.Recv
+pub recv_is : (action : Action) → is_recv action ≡ true → action ≡ act.Recv
 recv_is act.Recv is = refl
 recv_is action is = absurd (cc is)
 
@@ -109,7 +109,8 @@ module _ {o : Opening} {s : State} {p : ℕ} {c : Option Command} {t : State} (s
   few_doomed : (node : NodeRef) (key : Key) → doomed_key o s node ≡ Some key → key.origin < no_origin
   few_doomed node key is = let low = few node.owner (doom_owner o.wires (record_of_state s) node key is) in let same = doom_origin o.wires (record_of_state s) node key is in omega (arith, low, same)
 
-  part_before : (q : ℕ) (y : PeerPart) → IsPeer t q y → (x : PeerPart) × IsPeer s q x
+  -- a peer's part was there
+  pub part_before : (q : ℕ) (y : PeerPart) → IsPeer t q y → (x : PeerPart) × IsPeer s q x
   part_before q y is = elim (peer_cases step q y is) [
     | inl here ↦ (step.peer, subst (λ r. IsPeer s r step.peer) (sym here.0) step.is_peer)
     | inr other ↦ (y, other.1)

@@ -117,10 +117,10 @@ module _ (o : Opening) (r : Record) (legal : Legal o r) (x : Node) (doom key : K
       let d = doom_is (ref_of x) (destructions_of o.wires r x.owner) doom doomed in
       let below : Below doom key = below_is doom key (sym (key_before_is_below doom key) ∙ before) in
       let earlier : is_before d.0.stamp d.0.origin key.stamp key.origin ≡ true =
-          elim below [
-            | inl first ↦ ap (λ n. is_before n d.0.origin key.stamp key.origin) d.2.0 ∙ ap (λ n. is_before doom.stamp n key.stamp key.origin) d.2.1 ∙ is_of_before doom.stamp doom.origin key.stamp key.origin first
-            | inr same ↦ absurd (apart k c b at sent stamp same.0 same.1)
-          ] in
+      elim below [
+        | inl first ↦ ap (λ n. is_before n d.0.origin key.stamp key.origin) d.2.0 ∙ ap (λ n. is_before doom.stamp n key.stamp key.origin) d.2.1 ∙ is_of_before doom.stamp doom.origin key.stamp key.origin first
+        | inr same ↦ absurd (apart k c b at sent stamp same.0 same.1)
+      ] in
       let late : is_late_by x key d.0 ≡ true = and_from (is_before d.0.stamp d.0.origin key.stamp key.origin) (has_node x d.0.nodes) earlier (doomed_has x d.0.nodes d.2.2.0 d.2.2.1) in
       let low = doom_owner o.wires r (ref_of x) doom doomed in
       list_any-flat_map_range (is_late_by x key) (destructions_of o.wires r) x.owner (length r.peers) 0 (omega arith) (omega (arith, low)) (any_of (is_late_by x key) (destructions_of o.wires r x.owner) d.0 d.1 late)

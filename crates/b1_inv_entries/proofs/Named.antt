@@ -18,6 +18,7 @@ use Rattle.b1_inv.specs.Notices.{Apart}
 use Rattle.b1_inv.specs.Sound.{IsSound}
 use Rattle.b1_ledger.specs.Growth.{calls_len}
 use Rattle.b1_inv_record.specs.Epochs.{in_gap, ref_of, is_ref}
+use Rattle.b1_inv_record.specs.Names.{IsLineOf}
 use Rattle.b1_inv_record.specs.Right.{IsRight}
 use Rattle.b1_inv_notices.proofs.Turns.{get_there}
 
@@ -102,6 +103,10 @@ ref_is node (Some x) is =
     let serial = eqb-true x.serial node.serial both.1 in
     ap (λ n. Some (record { owner = n; serial = x.serial })) owner ∙ ap (λ n. Some (record { owner = node.owner; serial = n })) serial
 
+-- a record of a line has the line's number
+line_number_is : (h : HandleRecord) (l : Line) (number : ℕ) → IsLineOf h l → l.number ≡ number → h.number ≡ Some number
+line_number_is h l number same is = same.0 ∙ ap Some is
+
 -- ---- a state
 
 module _ {o : Opening} {s : State} (sound : IsSound o s) (right : IsRight o s) (p : ℕ) (d : DriverPart) (x : PeerPart) (is_driver : IsDriver s p d) (is_peer : IsPeer s p x) (no_gap : in_gap d ≡ false) where
@@ -120,16 +125,26 @@ module _ {o : Opening} {s : State} (sound : IsSound o s) (right : IsRight o s) (
       ∙ ap (λ k. Some (record { owner = p; serial = k })) place
       ∙ ap (λ k. Some (record { owner = k; serial = serial })) (sym (sound.numbered.peers p x is_peer).me)
 
-  given_named : (number : ℕ) (node : NodeRef) → held_node number x.handles ≡ Some node → option_map ref_of (line_node number end_table.lines) ≡ Some node
-  given_named number node is =
-      let h = held_record number x.handles node is in
-      let l = right.names.lines.records p number d x h.0 is_driver is_peer no_gap h.1 h.2 in
-      let l_number : l.0.number ≡ number = same_Some l.0.number number (sym l.2.0 ∙ h.2) in
-      let k = line_there number end_table.lines l.0 l.1 l_number in
+  -- the first line with the number of a record is of the record's node
+  by_first : (number : ℕ) (node : NodeRef) (h : HandleRecord) (k : Line) (g : HandleRecord) → Has x.handles h → h.number ≡ Some number → h.node ≡ node → k.number ≡ number → line_node number end_table.lines ≡ k.node → Has x.handles g → IsLineOf g k
+      → option_map ref_of (line_node number end_table.lines) ≡ Some node
+  by_first number node h k g has its_number its_node line_number first there line =
+      let same : g.node ≡ h.node = (sound.numbers.numbered p x is_peer).apart g h number there has (line_number_is g k number line line_number) its_number in
+      ap (option_map ref_of) first ∙ ref_is g.node k.node line.2 ∙ ap Some (same ∙ its_node)
+
+  by_line : (number : ℕ) (node : NodeRef) (h : HandleRecord) (l : Line) → Has x.handles h → h.number ≡ Some number → h.node ≡ node → Has end_table.lines l → l.number ≡ number → option_map ref_of (line_node number end_table.lines) ≡ Some node
+  by_line number node h l has its_number its_node there line_number =
+      let k = line_there number end_table.lines l there line_number in
       let g = right.names.lines.lines p d x k.0 is_driver is_peer no_gap k.1 in
-      let g_number : g.0.number ≡ Some number = g.2.0 ∙ ap Some k.2 in
-      let same : g.0.node ≡ h.0.node = (sound.numbers.numbered p x is_peer).apart g.0 h.0 number g.1 h.1 g_number h.2 in
-      ap (option_map ref_of) k.3 ∙ ref_is g.0.node k.0.node g.2.2 ∙ ap Some (same ∙ h.3)
+      by_first number node h k.0 g.0 has its_number its_node k.2 k.3 g.1 g.2
+
+  by_record : (number : ℕ) (node : NodeRef) (h : HandleRecord) → Has x.handles h → h.number ≡ Some number → h.node ≡ node → option_map ref_of (line_node number end_table.lines) ≡ Some node
+  by_record number node h has its_number its_node =
+      let l = right.names.lines.records p number d x h is_driver is_peer no_gap has its_number in
+      by_line number node h l.0 has its_number its_node l.1 (same_Some l.0.number number (sym l.2.0 ∙ its_number))
+
+  given_named : (number : ℕ) (node : NodeRef) → held_node number x.handles ≡ Some node → option_map ref_of (line_node number end_table.lines) ≡ Some node
+  given_named number node is = let h = held_record number x.handles node is in by_record number node h.0 h.1 h.2 h.3
 
   -- what a number names in the part, it names by the names of the part's nodes and by the table at the end of the calls
   pub number_named : (names : List Name) → map (λ n. n.number) x.nodes ≡ map (λ m. m.number) names → (number : ℕ) (node : NodeRef) → node_named x number ≡ Some node → option_map ref_of (named p names end_table number) ≡ Some node

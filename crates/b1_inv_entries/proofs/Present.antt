@@ -28,8 +28,8 @@ use Rattle.b1_inv_record.specs.Dooming.{is_ending}
 use Rattle.b1_inv_record.specs.Entries.{IsPresent, QueuedIsPresent}
 use Rattle.b1_inv_record.specs.Epochs.{awaits_flush, in_gap, made_before, flushed_calls, first_now, first_done}
 use Rattle.b1_inv_record.specs.Right.{IsRight}
-use Rattle.b1_inv_sends.proofs.StagesKept.{opening_queue}
 use Rattle.b1_inv_tools.proofs.Leaves.{peer_cases}
+use Rattle.b1_inv_sends.proofs.StagesKept.{opening_queue}
 use Rattle.b1_inv_notices.proofs.Turns.{parts, going, going_doing, going_action, get_there}
 use Rattle.b1_inv_destroys.proofs.Recorded.{calls_by, recorded, as_many}
 use Rattle.b1_inv_destroys.proofs.Taken.{number}

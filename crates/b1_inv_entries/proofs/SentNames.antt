@@ -30,8 +30,8 @@ use Rattle.b1_ledger.proofs.Steps.{table_next}
 use Rattle.b1_inv_record.specs.Epochs.{awaits_flush, in_gap, ref_of}
 use Rattle.b1_inv_record.specs.Names.{carried_open}
 use Rattle.b1_inv_record.specs.Right.{IsRight}
-use Rattle.b1_inv_names.proofs.Recorded.{recorded_calls}
 use Rattle.b1_inv_notices.proofs.Turns.{doing_in}
+use Rattle.b1_inv_names.proofs.Recorded.{recorded_calls}
 use Rattle.b1_inv_entries.proofs.Named.{all_named}
 
 -- the node at a place of a message

@@ -1,11 +1,13 @@
 -- Where an old entry of the record is after a step: still there, committed, taken, or cut off.
-use Rattle.std.proofs.Common.{◌≡◌, ◌⊎◌, refl, sym, ap, subst, ◌∙◌, inl, inr, ℕ, suc, ◌<◌, ◌≤◌, Bool, true, false, ◌&&◌, ◌==◌, not, nat_le, List, [], ◌∷◌, length, map, Option, Some, None, option_map}
+use Rattle.std.proofs.Common.{◌≡◌, ◌⊎◌, refl, sym, ap, subst, ◌∙◌, inl, inr, ℕ, ◌<◌, ◌≤◌, Bool, true, false, ◌&&◌, ◌==◌, not, nat_le, List, [], ◌∷◌, length, Option, Some, None, option_map}
 use Rattle.std.specs.Prelude.{slice_get}
 use Rattle.std.proofs.lemmas.Bool.{cases_eq, and_parts}
 use Rattle.std.proofs.lemmas.Option.{same_Some, slice_get_within, get_or_from_slice_get}
+use Rattle.std.proofs.lemmas.List.{length-map}
 use native.Mathlib.Omega.{arith}
 use Rattle.b1_model.specs.declared.commands.Command.{Command}
 use Rattle.b1_model.specs.declared.naming.Key.{Key}
+use Rattle.b1_model.specs.declared.naming.NodeRef.{NodeRef}
 use Rattle.b1_model.specs.declared.naming.Opening.{Opening}
 use Rattle.b1_model.specs.declared.answers.Answer.TheVariants as ans
 use Rattle.b1_model.specs.declared.answers.Sent.{Sent}
@@ -19,8 +21,8 @@ use Rattle.b1_model.specs.declared.events.Phase.TheVariants.{Syncing, Committing
 use Rattle.b1_model.specs.declared.events.Sending.{Sending}
 use Rattle.b1_model.specs.declared.records.Call.{Call}
 use Rattle.b1_model.specs.Names.{Node, Name, calls_of, add_new}
-use Rattle.b1_model.specs.Ledger.{stamp_of, Message, message, to_at}
-use Rattle.b1_model.specs.MachineParts.{PeerPart, DriverPart, State, is_staged, is_data, is_odd, key_before, node_at, no_node}
+use Rattle.b1_model.specs.Ledger.{stamp_of, Message, message, to_at, is_late}
+use Rattle.b1_model.specs.MachineParts.{PeerPart, DriverPart, State, is_staged, is_data, is_odd, key_before, node_at, no_node, NodePart}
 use Rattle.b1_model.specs.MachineTables.{is_stage, is_staged_notice}
 use Rattle.b1_model.specs.MachineReceive.{discards, is_for_nobody, received_part}
 use Rattle.b1_model.specs.MachineDriver.{node_of_place, no_ref, next_action, peer_of, phase_action}
@@ -33,7 +35,8 @@ use Rattle.b1_inv.specs.Words.{IsPeer, IsDriver, is_accepted_place, waits_at, is
 use Rattle.b1_inv.specs.Sound.{IsSound}
 use Rattle.b1_ledger.specs.Growth.{all_names}
 use Rattle.b1_ledger.proofs.Made.{add_new_keeps, to_made}
-use Rattle.b1_inv_record.specs.Entries.{IsCallOf, IsQueued, IsWaiting, WasCutOff, IsSomewhere}
+use Rattle.b1_inv_record.specs.Destructions.{own_ref, doomed_key}
+use Rattle.b1_inv_record.specs.Entries.{IsBehind, IsCallOf, IsQueued, IsWaiting, WasCutOff, IsSomewhere}
 use Rattle.b1_inv_record.specs.Epochs.{first_now, epoch_now, ref_of, WasReceivedIn}
 use Rattle.b1_inv_record.specs.Names.{open_numbers}
 use Rattle.b1_inv_record.specs.Right.{IsRight}
@@ -47,7 +50,7 @@ use Rattle.b1_inv_destroys.proofs.FirstNode.{is_flush_action}
 use Rattle.b1_inv_destroys.proofs.Nodes.{is_recv}
 use Rattle.b1_inv_destroys.proofs.Received.{received_stays}
 use Rattle.b1_inv_destroys.proofs.Recorded.{as_many}
-use Rattle.b1_inv_entries.proofs.GoneKept.{destroyed_key}
+use Rattle.b1_inv_entries.proofs.GoneKept.{recv_is, destroyed_key}
 use Rattle.b1_inv_entries.proofs.Keeping.{IsTakenFront, queue_keeps, recv_keeps, discard_is}
 use Rattle.b1_inv_entries.proofs.Late.{late_before, step_late}
 use Rattle.b1_inv_entries.proofs.NodeEpochs.{present_first}
@@ -111,14 +114,6 @@ accepted_low : (sending : Sending) (stamp at : ℕ) → waits_at (Committing sen
 accepted_low sending stamp at waits many =
     let within = accepted_within sending.places at (and_parts (nat_le at at) (is_accepted_place sending.places at) waits).1 in omega (arith, within, many)
 
-map_length : {X : Type 0} (f : X → ℕ) (xs : List X) → length (map f xs) ≡ length xs
-map_length f [] = refl
-map_length f (x ∷ xs) = ap suc (map_length f xs)
-
-recv_is : (action : Action) → is_recv action ≡ true → action ≡ act.Recv
-recv_is act.Recv is = refl
-recv_is action is = absurd (cc is)
-
 -- ---- an accepted place of an old send, at a node of the present epoch
 
 module _ {o : Opening} {s : State} {p : ℕ} {c : Option Command} {t : State} (sound : IsSound o s) (right : IsRight o s) (step : Step o s p c t)
@@ -146,7 +141,7 @@ module _ {o : Opening} {s : State} {p : ℕ} {c : Option Command} {t : State} (s
       let f = get_there s.drivers x.owner (omega (arith, within, as_many sound step)) in
       let names = add_new y.epoch (all_names o.wires (record_of_state s) x.owner) (open_numbers f.0) in
       let there = slice_get_within names x.serial made.0 (add_new_keeps y.epoch (all_names o.wires (record_of_state s) x.owner) (open_numbers f.0) x.serial made.0 made.1) in
-      let many : length y.nodes ≡ length names = sym (map_length (λ n. n.number) y.nodes) ∙ ap length (right.names.made.made x.owner f.0 y f.1 was) ∙ map_length (λ n. n.number) names in
+      let many : length y.nodes ≡ length names = sym (length-map y.nodes (λ n. n.number)) ∙ ap length (right.names.made.made x.owner f.0 y f.1 was) ∙ length-map names (λ n. n.number) in
       omega (arith, there, many)
 
   -- ---- a queued one
@@ -154,21 +149,37 @@ module _ {o : Opening} {s : State} {p : ℕ} {c : Option Command} {t : State} (s
   here_is : x.owner ≡ step.at → y ≡ step.peer
   here_is here = same_Some y step.peer (sym was ∙ ap (slice_get s.peers) here ∙ step.is_peer)
 
+  -- what is removed for nobody is for a node whose notice was taken
+  cut_taken : (f : Key × Entry) (its : Message) → message o.wires (record_of_state s) f.0.stamp f.0.origin ≡ Some its → IsCallOf x.owner f.0 f.1 its → f.0 ≡ key → is_data f.1 ≡ true → is_for_nobody y f.1 ≡ true → (node_at y x.serial).taken ≡ true
+  cut_taken f its found call same data_is nobody =
+      let one_message : its ≡ m = same_Some its m (sym found ∙ ap (λ q. message o.wires (record_of_state s) q.stamp q.origin) same ∙ is_message) in
+      let goes : to_at its f.0.index ≡ Some x = ap (λ w. to_at w f.0.index) one_message ∙ ap (λ q. to_at m q.index) same ∙ to in
+      nobody_taken x.owner f.0 f.1 y its x data_is nobody call goes
+
+  -- and the node's destruction is before the send
+  cut_doomed : (f : Key × Entry) (doom : Key) → Has y.queue f → f.0 ≡ key → doomed_key o s (own_ref x.owner x.serial) ≡ Some doom → IsBehind doom y → is_late o.wires (record_of_state t) x key ≡ true
+  cut_doomed f doom has same doomed behind =
+      let before : key_before doom f.0 ≡ true = has_all (λ g. key_before doom g.0 ≡ true) y.queue f behind.1 has in
+      step_late sound right step x key (late_before o (record_of_state s) right.legal x doom key doomed k one b at_call sent refl (ap (key_before doom) (sym same) ∙ before))
+
+  cut_node : (f : Key × Entry) (n : NodePart) → Has y.queue f → f.0 ≡ key → slice_get y.nodes x.serial ≡ Some n → n.taken ≡ true → is_late o.wires (record_of_state t) x key ≡ true
+  cut_node f n has same at taken =
+      let doom = destroyed_key sound right step x.owner x.serial y n n.state was at refl (right.destructions.own.taken x.owner x.serial y n was at taken) in
+      cut_doomed f doom.0 has same doom.1 (right.entries.gone.taken x.owner x.serial y n doom.0 was at taken doom.1)
+
+  cut_by : (f : Key × Entry) → Has y.queue f → f.0 ≡ key → (node_at y x.serial).taken ≡ true → WasCutOff o t z x key
+  cut_by f has same taken =
+      let n = get_there y.nodes x.serial low in (
+        cut_node f n.0 has same n.1 (ap (λ w. w.taken) (sym (get_or_from_slice_get y.nodes x.serial n.0 no_node n.1)) ∙ taken),
+        taken_stays step x.owner x.serial y z was is taken,
+      )
+
   cut_off : (f : Key × Entry) → x.owner ≡ step.at → Has (discards step.peer) f → f.0 ≡ key → is_data f.1 ≡ true → WasCutOff o t z x key
   cut_off f here front same data_is =
       let gone = discard_is step.peer f front in
-      let same_part = here_is here in
-      let call = right.entries.called.sent x.owner y f was (subst (λ w. Has w.queue f) (sym same_part) gone.0) data_is gone.1 in
-      let its : call.0 ≡ m = same_Some call.0 m (sym call.1 ∙ ap (λ q. message o.wires (record_of_state s) q.stamp q.origin) same ∙ is_message) in
-      let goes : to_at call.0 f.0.index ≡ Some x = ap (λ w. to_at w f.0.index) its ∙ ap (λ q. to_at m q.index) same ∙ to in
-      let taken : (node_at y x.serial).taken ≡ true = nobody_taken x.owner f.0 f.1 y call.0 x data_is (ap (λ w. is_for_nobody w f.1) same_part ∙ gone.2) call.2 goes in
-      let n = get_there y.nodes x.serial low in
-      let n_taken : n.0.taken ≡ true = ap (λ w. w.taken) (sym (get_or_from_slice_get y.nodes x.serial n.0 no_node n.1)) ∙ taken in
-      let doom = destroyed_key sound right step x.owner x.serial y n.0 n.0.state was n.1 refl (right.destructions.own.taken x.owner x.serial y n.0 was n.1 n_taken) in
-      let behind = right.entries.gone.taken x.owner x.serial y n.0 doom.0 was n.1 n_taken doom.1 in
-      let before : key_before doom.0 f.0 ≡ true = has_all (λ g. key_before doom.0 g.0 ≡ true) y.queue f behind.1 (subst (λ w. Has w.queue f) (sym same_part) gone.0) in
-      let late = late_before o (record_of_state s) right.legal x doom.0 key doom.1 k one b at_call sent refl (ap (key_before doom.0) (sym same) ∙ before) in
-      (step_late sound right step x key late, taken_stays step x.owner x.serial y z was is taken)
+      let has : Has y.queue f = subst (λ w. Has w.queue f) (sym (here_is here)) gone.0 in
+      let call = right.entries.called.sent x.owner y f was has data_is gone.1 in
+      cut_by f has same (cut_taken f call.0 call.1 call.2 same data_is (ap (λ w. is_for_nobody w f.1) (here_is here) ∙ gone.2))
 
   even : is_odd b.stamp ≡ false
   even = even_is b.stamp ((right.legal.keys r k).even one b.stamp at_call (ap stamp_of sent))
@@ -204,27 +215,12 @@ module _ {o : Opening} {s : State} {p : ℕ} {c : Option Command} {t : State} (s
 
   -- ---- one that waits
 
-  commits : r ≡ p → d ≡ step.driver → (sending : Sending) → (parts step).phase ≡ Committing sending b.stamp i → step.driver.owed ≡ [] → step.driver.doing ≡ Some (going_doing step) → waits_at (parts step).phase i ≡ true → IsSomewhere o t e z x key
-  commits mine driver_is sending phase owed open_is waits =
-      let is_open : step.driver.doing ≡ Some (doing_in (parts step).command (Committing sending b.stamp i)) = open_is ∙ ap (λ w. Some (doing_in (parts step).command w)) phase in
-      let own = get_there s.peers p (let within = slice_get_within s.drivers p step.driver step.is_driver in omega (arith, within, as_many sound step)) in
-      let shape = (sound.sends.shape p step.driver (doing_in (parts step).command (Committing sending b.stamp i)) step.is_driver is_open).0 in
-      let said = sent_message sound right p step.driver own.0 step.is_driver own.1 (parts step).command sending b.stamp i is_open shape.begun.send in
-      let its : said.0 ≡ m = same_Some said.0 m (sym said.1 ∙ ap (message o.wires (record_of_state s) b.stamp) (sym mine) ∙ is_message) in
-      let within : i < length sending.begun.to = accepted_low sending b.stamp i (subst (λ w. waits_at w i ≡ true) phase waits) shape.places in
-      let n = get_there sending.begun.to i within in
-      let both : Some (ref_of x) ≡ Some n.0 = ap (option_map ref_of) (sym (ap (λ w. to_at w i) its ∙ to)) ∙ place_named said.0.to sending.begun.to i n.0 said.2.to n.1 in
-      let node_is : n.0 ≡ ref_of x = sym (same_Some (ref_of x) n.0 both) in
-      let at_node : slice_get sending.begun.to i ≡ Some (ref_of x) = n.1 ∙ ap Some node_is in
-      let owner : (node_of_place sending.begun.to i).owner ≡ x.owner = ap (λ w. w.owner) (get_or_from_slice_get sending.begun.to i (ref_of x) no_ref at_node) in
-      let aims : peer_of step.driver.me (next_action (opened step.driver (parts step).command (parts step).phase step.driver.owed)) ≡ (node_of_place sending.begun.to i).owner =
-          ap (λ w. peer_of step.driver.me (next_action (opened step.driver (parts step).command w step.driver.owed))) phase ∙ ap (λ w. peer_of step.driver.me (next_action (opened step.driver (parts step).command (Committing sending b.stamp i) w))) owed in
-      let here : x.owner ≡ step.at = sym owner ∙ sym aims ∙ (parts step).is_at in
-      let staged = right.entries.pending.staged p i step.driver (doing_in (parts step).command (Committing sending b.stamp i)) (ref_of x) y step.is_driver is_open at_node (subst (λ w. waits_at w i ≡ true) phase waits) was first in
+  -- its commit puts it in the queue of the node's owner
+  commit_at : (sending : Sending) → r ≡ p → step.driver.doing ≡ Some (doing_in (parts step).command (Committing sending b.stamp i)) → waits_at (Committing sending b.stamp i) i ≡ true → slice_get sending.begun.to i ≡ Some (ref_of x) → x.owner ≡ step.at
+      → (answered o step.local.memory step.driver (parts step).command (Committing sending b.stamp i) [] step.peer).1 ≡ step.new_peer → IsSomewhere o t e z x key
+  commit_at sending mine is_open waits at_node here result =
+      let staged = right.entries.pending.staged p i step.driver (doing_in (parts step).command (Committing sending b.stamp i)) (ref_of x) y step.is_driver is_open at_node waits was first in
       let there = commit_there (find_stage step.peer step.driver.me i) step.peer step.driver.me i b.stamp (slots_at (Committing sending b.stamp i) i) staged.0 refl (subst (λ w. Has w.queue staged.0) (here_is here) staged.1) (subst (λ q. is_stage q i staged.0 ≡ true) (sym me_is) staged.2) in
-      let result : (answered o step.local.memory step.driver (parts step).command (Committing sending b.stamp i) [] step.peer).1 ≡ step.new_peer =
-          ap (λ w. (answered o step.local.memory step.driver (parts step).command (Committing sending b.stamp i) w step.peer).1) (sym owed)
-          ∙ ap (λ w. (answered o step.local.memory step.driver (parts step).command w step.driver.owed step.peer).1) (sym phase) ∙ (parts step).is_peer in
       elim (peer_cases step x.owner z is) [
         | inr other ↦ absurd (other.0 here)
         | inl now ↦ inl (inl (
@@ -235,6 +231,33 @@ module _ {o : Opening} {s : State} {p : ℕ} {c : Option Command} {t : State} (s
         ))
       ]
 
+  -- the place goes to the node
+  place_is : (sending : Sending) → r ≡ p → step.driver.doing ≡ Some (doing_in (parts step).command (Committing sending b.stamp i)) → waits_at (Committing sending b.stamp i) i ≡ true → slice_get sending.begun.to i ≡ Some (ref_of x)
+  place_is sending mine is_open waits =
+      let own = get_there s.peers p (let within = slice_get_within s.drivers p step.driver step.is_driver in omega (arith, within, as_many sound step)) in
+      let shape = (sound.sends.shape p step.driver (doing_in (parts step).command (Committing sending b.stamp i)) step.is_driver is_open).0 in
+      let said = sent_message sound right p step.driver own.0 step.is_driver own.1 (parts step).command sending b.stamp i is_open shape.begun.send in
+      let n = get_there sending.begun.to i (accepted_low sending b.stamp i waits shape.places) in
+      n.1 ∙ named_there said.0 n.0 (ap (message o.wires (record_of_state s) b.stamp) mine ∙ said.1) (place_named said.0.to sending.begun.to i n.0 said.2.to n.1)
+    where
+      named_there : (its : Message) (node : NodeRef) → message o.wires (record_of_state s) b.stamp r ≡ Some its → option_map ref_of (to_at its i) ≡ Some node → Some node ≡ Some (ref_of x)
+      named_there its node found named = sym named ∙ ap (λ w. option_map ref_of (to_at w i)) (same_Some its m (sym found ∙ is_message)) ∙ ap (option_map ref_of) to
+
+  commits : r ≡ p → (sending : Sending) → (parts step).phase ≡ Committing sending b.stamp i → step.driver.owed ≡ [] → step.driver.doing ≡ Some (going_doing step) → waits_at (parts step).phase i ≡ true → IsSomewhere o t e z x key
+  commits mine sending phase owed open_is waiting =
+      let is_open : step.driver.doing ≡ Some (doing_in (parts step).command (Committing sending b.stamp i)) = open_is ∙ ap (λ w. Some (doing_in (parts step).command w)) phase in
+      let waits : waits_at (Committing sending b.stamp i) i ≡ true = subst (λ w. waits_at w i ≡ true) phase waiting in
+      let at_node = place_is sending mine is_open waits in
+      commit_at sending mine is_open waits at_node (sym (ap (λ w. w.owner) (get_or_from_slice_get sending.begun.to i (ref_of x) no_ref at_node)) ∙ sym aims ∙ (parts step).is_at) result
+    where
+      aims : peer_of step.driver.me (next_action (opened step.driver (parts step).command (parts step).phase step.driver.owed)) ≡ (node_of_place sending.begun.to i).owner
+      aims = ap (λ w. peer_of step.driver.me (next_action (opened step.driver (parts step).command w step.driver.owed))) phase ∙ ap (λ w. peer_of step.driver.me (next_action (opened step.driver (parts step).command (Committing sending b.stamp i) w))) owed
+
+      result : (answered o step.local.memory step.driver (parts step).command (Committing sending b.stamp i) [] step.peer).1 ≡ step.new_peer
+      result =
+          ap (λ w. (answered o step.local.memory step.driver (parts step).command (Committing sending b.stamp i) w step.peer).1) (sym owed)
+          ∙ ap (λ w. (answered o step.local.memory step.driver (parts step).command w step.driver.owed step.peer).1) (sym phase) ∙ (parts step).is_peer
+
   own_waiting : r ≡ p → d ≡ step.driver → e ≡ step.new_driver → IsWaiting d key → IsSomewhere o t e z x key
   own_waiting mine driver_is new_is (fixed, pending) = elim (parts step).was [
     | inr none ↦ let nothing : None ≡ Some b.stamp = ap (λ doing. elim doing [ None ↦ None | Some w ↦ stamp_of_phase w.phase ]) (sym none.0) ∙ ap fixed_stamp (sym driver_is) ∙ fixed in absurd (cc nothing)
@@ -242,7 +265,7 @@ module _ {o : Opening} {s : State} {p : ℕ} {c : Option Command} {t : State} (s
         let stamp : stamp_of_phase (parts step).phase ≡ Some b.stamp = ap (λ doing. elim doing [ None ↦ None | Some w ↦ stamp_of_phase w.phase ]) (sym open_is) ∙ ap fixed_stamp (sym driver_is) ∙ fixed in
         let waits : waits_at (parts step).phase i ≡ true = ap (λ doing. elim doing [ None ↦ false | Some w ↦ waits_at w.phase i ]) (sym open_is) ∙ ap (λ w. is_pending w i) (sym driver_is) ∙ pending in
         elim (commit_or step.driver.me step.driver.shut (parts step).command (parts step).phase step.driver.owed i b.stamp waits stamp) [
-          | inl commit ↦ commits mine driver_is commit.0 commit.1 commit.2 open_is waits
+          | inl commit ↦ commits mine commit.0 commit.1 commit.2 open_is waits
           | inr apart ↦ inl (inr (subst (λ w. IsWaiting w key) (sym new_is) (waits_on step i b.stamp waits stamp apart)))
         ]
   ]

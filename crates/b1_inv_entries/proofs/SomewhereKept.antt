@@ -21,11 +21,12 @@ use Rattle.b1_ledger.proofs.Walks.{epoch_in-append}
 use Rattle.b1_inv_record.specs.Entries.{IsWaiting, IsSomewhere, EntryIsSomewhere}
 use Rattle.b1_inv_record.specs.Epochs.{ref_of, epoch_now}
 use Rattle.b1_inv_record.specs.Right.{IsRight}
-use Rattle.b1_inv_tools.proofs.Leaves.{driver_cases, peer_cases}
+use Rattle.b1_inv_tools.proofs.Leaves.{driver_cases}
 use Rattle.b1_inv_notices.proofs.Turns.{get_there}
 use Rattle.b1_inv_entries.proofs.Beginnings.{opening_calls}
 use Rattle.b1_inv_entries.proofs.CalledKept.{message_stays}
 use Rattle.b1_inv_entries.proofs.Calls.{IsOldCall, IsNewCall, call_cases}
+use Rattle.b1_inv_entries.proofs.GoneKept.{part_before}
 use Rattle.b1_inv_entries.proofs.NewCalls.{NewCall, record_extends}
 use Rattle.b1_inv_entries.proofs.NewSend.{stamped, sending, many_places, new_message}
 use Rattle.b1_inv_entries.proofs.SentNames.{place_named}
@@ -44,12 +45,6 @@ module _ {o : Opening} {s : State} {p : ℕ} {c : Option Command} {t : State} (s
     | inr other ↦ (e, other.1)
   ]
 
-  part_before : (q : ℕ) (z : PeerPart) → IsPeer t q z → (y : PeerPart) × IsPeer s q y
-  part_before q z is = elim (peer_cases step q z is) [
-    | inl here ↦ (step.peer, subst (λ r. IsPeer s r step.peer) (sym here.0) step.is_peer)
-    | inr other ↦ (z, other.1)
-  ]
-
   -- epochs never fall
   epoch_grows : (q : ℕ) → epoch_now s q ≤ epoch_now t q
   epoch_grows q =
@@ -64,9 +59,9 @@ module _ {o : Opening} {s : State} {p : ℕ} {c : Option Command} {t : State} (s
   new_place new b sent i place =
       let said = new_message sound right step new b sent in
       let within : i < length (sending sound right step new b sent).begun.to =
-          let low = slice_get_within b.places i None place in
-          let same = ap length (stamped sound right step new b sent).2 in
-          let many = many_places sound right step new b sent in omega (arith, low, same, many) in
+      let low = slice_get_within b.places i None place in
+      let same = ap length (stamped sound right step new b sent).2 in
+      let many = many_places sound right step new b sent in omega (arith, low, same, many) in
       let n = get_there (sending sound right step new b sent).begun.to i within in
       let x = some_node (to_at said.0 i) n.0 (place_named said.0.to (sending sound right step new b sent).begun.to i n.0 said.2.to n.1) in
       (said.0, x.0, said.1, x.1)
@@ -95,7 +90,7 @@ module _ {o : Opening} {s : State} {p : ℕ} {c : Option Command} {t : State} (s
       → message o.wires (record_of_state t) b.stamp r ≡ Some m → to_at m i ≡ Some x → x.epoch ≡ epoch_now t x.owner → IsPeer t x.owner z → IsSomewhere o t e z x (record { stamp = b.stamp; origin = r; index = i })
   old_somewhere r k i e one b m x z is_new at sent place is_message to present is =
       let d = driver_before r e is_new in
-      let y = part_before x.owner z is in
+      let y = part_before sound right step x.owner z is in
       let n = right.entries.somewhere.named r k i d.0 one b d.1 at sent place in
       let its : n.0 ≡ m = same_Some n.0 m (sym (message_stays sound right step b.stamp r n.0 n.2) ∙ is_message) in
       let before : message o.wires (record_of_state s) b.stamp r ≡ Some m = n.2 ∙ ap Some its in

@@ -77,7 +77,7 @@ module _ {o : Opening} {s : State} {p : ℕ} {c : Option Command} {t : State} (s
   receipt_call : (one : Receipt) → going_action step ≡ act.Recv → recv_answer (received step.peer) ≡ answer.Got one → calls_of (record_of_state t) p ≡ calls_of (record_of_state s) p ++ record { command = as_call (parts step).command; answer = answer.Got one } ∷ []
   receipt_call one is got =
       let turned : turn step.driver.me (parts step).command (parts step).phase (going_answer step) ≡ turn step.driver.me (parts step).command Starting (out.Recv (received step.peer) (has_dead (received_part step.peer))) =
-          ap (λ phase. turn step.driver.me (parts step).command phase (going_answer step)) (starting is) ∙ ap (turn step.driver.me (parts step).command Starting) (answers is) in
+      ap (λ phase. turn step.driver.me (parts step).command phase (going_answer step)) (starting is) ∙ ap (turn step.driver.me (parts step).command Starting) (answers is) in
       own_after sound step ∙ calls_after sound step
       ∙ ap (λ z. step.driver.calls ++ fixed_call (parts step).command (turn_answer (parts step).command z)) turned
       ∙ ap (λ z. step.driver.calls ++ call_of (parts step).command z) got
@@ -94,6 +94,6 @@ module _ {o : Opening} {s : State} {p : ℕ} {c : Option Command} {t : State} (s
         ap (λ list. slice_get list (length (calls_of (record_of_state s) p))) calls ∙ slice_get-end (calls_of (record_of_state s) p) _,
         ap got_key (sym receipt.1) ∙ receipt.2,
         ap (λ list. epoch_in 0 (take (length (calls_of (record_of_state s) p)) list)) calls
-        ∙ ap (epoch_in 0) (take-append-le (length (calls_of (record_of_state s) p)) (calls_of (record_of_state s) p) _ (omega arith))
-        ∙ ap (epoch_in 0) (take-end (calls_of (record_of_state s) p)),
+            ∙ ap (epoch_in 0) (take-append-le (length (calls_of (record_of_state s) p)) (calls_of (record_of_state s) p) _ (omega arith))
+            ∙ ap (epoch_in 0) (take-end (calls_of (record_of_state s) p)),
       )

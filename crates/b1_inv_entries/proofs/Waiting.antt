@@ -1,37 +1,35 @@
 -- A place of a SEND with its stamp waits on after an event, unless the event commits it.
 use Rattle.std.proofs.Common.{◌≡◌, refl, sym, ap, subst, ◌∙◌, ℕ, ◌+◌, Bool, true, false, cond, nat_le, List, [], ◌∷◌, Option, Some, None}
+use Rattle.std.proofs.lemmas.Bool.{and_from, le-leb}
+use native.Mathlib.Omega.{arith}
 use Rattle.b1_model.specs.declared.commands.Command.{Command}
 use Rattle.b1_model.specs.declared.events.Outcome.{Outcome}
 use Rattle.b1_model.specs.declared.events.Outcome.TheVariants as out
 use Rattle.b1_model.specs.declared.events.Phase.{Phase}
 use Rattle.b1_model.specs.declared.events.Phase.TheVariants.{Starting, Stamping, Syncing, Committing}
 use Rattle.b1_model.specs.declared.events.Sending.{Sending}
-use Rattle.b1_model.specs.MachineDriver.{accepted_from, is_place, syncing, turn, Turn, Goes, Ends}
-use Rattle.b1_inv.specs.Words.{waits_at, stamp_of_phase}
-use Rattle.std.proofs.lemmas.Bool.{and_from, le-leb}
-use native.Mathlib.Omega.{arith}
 use Rattle.b1_model.specs.declared.naming.Key.{Key}
 use Rattle.b1_model.specs.declared.parts.Slot.{Slot}
 use Rattle.b1_model.specs.declared.entries.Entry.{Entry}
 use Rattle.b1_model.specs.declared.entries.Entry.TheVariants.{Message, OwnNotice, ForeignNotice, ReleaseNotice}
 use Rattle.b1_model.specs.declared.events.OwedDrop.{OwedDrop}
+use Rattle.b1_model.specs.declared.naming.Opening.{Opening}
+use Rattle.b1_model.specs.MachineDriver.{accepted_from, is_place, syncing, turn, Turn, Goes, Ends, phase_action}
 use Rattle.b1_model.specs.MachineParts.{PeerPart, DriverPart, State, is_data}
 use Rattle.b1_model.specs.MachineTables.{without, is_stage}
 use Rattle.b1_model.specs.MachineSend.{find_stage, committed_by, with_slots}
 use Rattle.b1_model.specs.MachineTook.{with_facts}
 use Rattle.b1_model.specs.MachineEvents.{begun_of}
 use Rattle.b1_model.specs.MachineStep.{Step}
-use Rattle.b1_model.specs.declared.naming.Opening.{Opening}
 use Rattle.b1_step.specs.Rights.{Has}
 use Rattle.b1_step.proofs.Orders.{find_has, find_none}
 use Rattle.b1_step.proofs.Queues.{has_put_new}
-use Rattle.b1_inv.specs.Words.{is_pending, fixed_stamp, is_accepted_place}
+use Rattle.b1_inv.specs.Words.{waits_at, stamp_of_phase, is_pending, fixed_stamp, is_accepted_place}
 use Rattle.b1_inv_tools.proofs.Leaves.{turned_open}
 use Rattle.b1_inv_sends.proofs.Places.{next_before}
 use Rattle.b1_inv_sends.proofs.Waits.{WaitsOn, stops, event_waits, drop_waits, turn_waits}
 use Rattle.b1_inv_notices.proofs.Turns.{doing_in, opened, answered, parts, going, going_doing, going_answer}
 use Rattle.b1_inv_destroys.proofs.Keyed.{stage_is_message}
-use Rattle.b1_model.specs.MachineDriver.{phase_action}
 
 -- the stamp that a turn leaves
 abbrev stamp_of_turn : Turn → Option ℕ
