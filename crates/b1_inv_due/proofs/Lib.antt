@@ -1,3 +1,4 @@
 pub mod Totals
 pub mod Notified
 pub mod Stays
+pub mod Comes
