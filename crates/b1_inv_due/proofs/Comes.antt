@@ -116,7 +116,7 @@ module _ {o : Opening} {s : State} {p : ℕ} {command : Option Command} {t : Sta
         let releases = right.parts.releases in
         unheld_total sound node step.peer owner_before (live_made step.peer node.serial (releases.live node.owner node.serial step.peer key owner_before has)) (releases.unheld node.owner node.serial step.peer key owner_before has)
 
-    after_live : (key : Key) → Has step.new_peer.queue (key, ReleaseNotice node.serial) → is_live (node_at step.new_peer node.serial).state ≡ true
+    pub after_live : (key : Key) → Has step.new_peer.queue (key, ReleaseNotice node.serial) → is_live (node_at step.new_peer node.serial).state ≡ true
     after_live key has = parts_after.releases.live node.owner node.serial step.new_peer key owner_after has
 
     after_total : (key : Key) → Has step.new_peer.queue (key, ReleaseNotice node.serial) → total t node ≡ 0

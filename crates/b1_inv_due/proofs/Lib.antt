@@ -2,3 +2,4 @@ pub mod Totals
 pub mod Notified
 pub mod Stays
 pub mod Comes
+pub mod Fronts
