@@ -3,3 +3,4 @@ pub mod Notified
 pub mod Stays
 pub mod Comes
 pub mod Fronts
+pub mod Goes
