@@ -4,3 +4,4 @@ pub mod Stays
 pub mod Comes
 pub mod Fronts
 pub mod Goes
+pub mod Due

@@ -1,2 +1,6 @@
-//! When release notices come and when they go, in every step.
+//! Release notices are queued exactly while they are due, in every reached state and through every step.
 #![tactic(auto)]
+
+mod laws;
+
+pub use laws::release_notices_are_due;
