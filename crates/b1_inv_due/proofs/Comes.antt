@@ -53,6 +53,7 @@ holder_has : (doing : Doing) (x : PeerPart) (key : Key) (serial : ℕ) (action :
 holder_has doing x key serial (act.DropRefs peer one holder k clock) fits (same, mine, due) = (holder, subst (λ n. 1 ≤ count_of (node_at x n) holder) (sym mine) fits)
 holder_has doing x key serial action fits new = absurd new
 
+-- a queued notice changes no clock
 drop_clock : (b : Bool) (x : PeerPart) (serial : ℕ) → (with_release_notice b x serial).clock ≡ x.clock
 drop_clock true x serial = refl
 drop_clock false x serial = refl
@@ -97,6 +98,7 @@ module _ {o : Opening} {s : State} {p : ℕ} {command : Option Command} {t : Sta
   abbrev k : Did o step.local.memory step.driver command step.peer step.action step.at step.new_driver step.new_peer
   k = step_did step
 
+  -- the state after the step is sound, and its parts are right
   sound_after : IsSound o t
   sound_after = step_sound o s p command t sound step
 
@@ -104,6 +106,7 @@ module _ {o : Opening} {s : State} {p : ℕ} {command : Option Command} {t : Sta
   parts_after = parts_kept o s p command t sound right.parts step
 
   module _ (node : NodeRef) (here : node.owner ≡ step.at) where
+    -- the owner's part before and after the event
     pub owner_before : IsPeer s node.owner step.peer
     owner_before = subst (λ q. IsPeer s q step.peer) (sym here) step.is_peer
 
@@ -116,6 +119,7 @@ module _ {o : Opening} {s : State} {p : ℕ} {command : Option Command} {t : Sta
         let releases = right.parts.releases in
         unheld_total sound node step.peer owner_before (live_made step.peer node.serial (releases.live node.owner node.serial step.peer key owner_before has)) (releases.unheld node.owner node.serial step.peer key owner_before has)
 
+    -- after the event too
     pub after_live : (key : Key) → Has step.new_peer.queue (key, ReleaseNotice node.serial) → is_live (node_at step.new_peer node.serial).state ≡ true
     after_live key has = parts_after.releases.live node.owner node.serial step.new_peer key owner_after has
 
@@ -129,6 +133,7 @@ module _ {o : Opening} {s : State} {p : ℕ} {command : Option Command} {t : Sta
       | inr new ↦ new_release o k.e k.doing step.peer key node.serial step.action (next_fits sound step k.e.owed refl) new
     ]
 
+    -- it stands under the owner's clock
     pub stamp_here : has_release_notice node.serial step.peer ≡ false → has_release_notice node.serial step.new_peer ≡ true → list_any (is_notice_with node.serial step.new_peer.clock) step.new_peer.queue ≡ true
     stamp_here none there =
         let found = notice_there node.serial step.new_peer there in
@@ -137,6 +142,7 @@ module _ {o : Opening} {s : State} {p : ℕ} {command : Option Command} {t : Sta
         (ap (λ b. b && (found.0.stamp == step.new_peer.clock)) (eq-eqb node.serial node.serial refl) ∙ eq-eqb found.0.stamp step.new_peer.clock clock)
 
     module _ (live : is_live (node_at step.peer node.serial).state ≡ true) where
+      -- it comes at a drop, before which somebody has a reference and after which nobody has
       comes_here : has_release_notice node.serial step.peer ≡ false → has_release_notice node.serial step.new_peer ≡ true → (is_drop_of node step.action ≡ true) × (0 < total s node) × (total t node ≡ 0)
       comes_here none there =
           let found = notice_there node.serial step.new_peer there in
@@ -164,29 +170,33 @@ module _ {o : Opening} {s : State} {p : ℕ} {command : Option Command} {t : Sta
   -- ---- wherever the node's owner is
 
   module _ (node : NodeRef) (live : is_live_in s node ≡ true) where
-    live_here : (here : node.owner ≡ step.at) → is_live (node_at step.peer node.serial).state ≡ true
+    -- the tests of the two states, by the parts of the event's peer
+    pub live_here : (here : node.owner ≡ step.at) → is_live (node_at step.peer node.serial).state ≡ true
     live_here here = sym (live_by s node step.peer (owner_before node here)) ∙ live
 
-    before_is : (here : node.owner ≡ step.at) → is_notified s node ≡ has_release_notice node.serial step.peer
+    pub before_is : (here : node.owner ≡ step.at) → is_notified s node ≡ has_release_notice node.serial step.peer
     before_is here = notified_by s node step.peer (owner_before node here)
 
-    after_is : (here : node.owner ≡ step.at) → is_notified t node ≡ has_release_notice node.serial step.new_peer
+    pub after_is : (here : node.owner ≡ step.at) → is_notified t node ≡ has_release_notice node.serial step.new_peer
     after_is here = notified_by t node step.new_peer (owner_after node here)
 
     -- what changes is at the event's peer
     pub changed_here : is_notified s node ≢ is_notified t node → node.owner ≡ step.at
     changed_here differs = elim (cases_eq node.owner step.at) [ inl here ↦ here | inr apart ↦ absurd (differs (sym (notified_elsewhere step node apart))) ]
 
+    -- a notice comes only at the last drop
     pub comes_forth : (is_notified s node ≡ false) × (is_notified t node ≡ true) → (is_drop_of node step.action ≡ true) × (0 < total s node) × (total t node ≡ 0)
     comes_forth (none, there) =
         let here = changed_here (λ same. cc (sym none ∙ same ∙ there)) in
         comes_here node here (live_here here) (sym (before_is here) ∙ none) (sym (after_is here) ∙ there)
 
+    -- and at the last drop it comes
     pub comes_back : (is_drop_of node step.action ≡ true) × (0 < total s node) × (total t node ≡ 0) → (is_notified s node ≡ false) × (is_notified t node ≡ true)
     comes_back (is, some, none) =
         let here = drop_at node k.e.me step.at step.action k.is_at is in
         (before_is here ∙ none_before node here (live_here here) some, after_is here ∙ last_drop node here (live_here here) is none)
 
+    -- with the clock that its owner has after the event
     pub comes_stamped : is_notified s node ≡ false → is_notified t node ≡ true → list_any (is_notice_with node.serial step.new_peer.clock) step.new_peer.queue ≡ true
     comes_stamped none there =
         let here = changed_here (λ same. cc (sym none ∙ same ∙ there)) in

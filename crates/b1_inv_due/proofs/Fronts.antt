@@ -45,6 +45,7 @@ abbrev pub answers_released : ℕ → Receipt → Bool
 answers_released mine (receipt.Released stamp number) = number == mine
 answers_released mine got = false
 
+-- a RECV answers with its front, where that is committed
 front_answer : (x : PeerPart) (f : Key × Entry) (rest : Queue) → (cleared x).queue ≡ f ∷ rest → is_staged f ≡ false → (received x).front ≡ Ok (taken_entry (record (cleared x) { queue = rest }) f.0 f.1).0
 front_answer x f rest is even = ap (λ q. (front_taken (cleared x) q).0) is ∙ ap (λ b. (front_by b (cleared x) f rest).0) even
 
@@ -56,6 +57,7 @@ release_answered mine x k (ForeignNotice node index) is = absurd (cc is)
 release_answered mine x k (ReleaseNotice serial) is = (serial, refl, eqb-true (node_at x serial).number mine is)
 
 module _ (x : PeerPart) (up : Rising x.handles) (serial : ℕ) where
+  -- the removals at the front leave the numbers of nodes
   same_number : (rest : Queue) (one : ℕ) → (node_at (record (cleared x) { queue = rest }) one).number ≡ (node_at x one).number
   same_number rest one = ap (λ nodes. (get_or nodes one no_node).number) (cleared_same x up).1
 

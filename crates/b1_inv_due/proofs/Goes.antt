@@ -37,14 +37,16 @@ use Rattle.b1_inv_entries.proofs.PendingKept.{flush_phase}
 use Rattle.b1_inv_parts.proofs.Serials.{live_made}
 use Rattle.b1_inv_parts.proofs.Releases.{ReleasesOk}
 use Rattle.b1_inv_parts.proofs.ReleasesKept.{at_own}
-use Rattle.b1_inv_due.proofs.Notified.{notice_there, there_notified, notified_by, live_by}
+use Rattle.b1_inv_due.proofs.Notified.{notice_there, there_notified, live_by}
 use Rattle.b1_inv_due.proofs.Stays.{Takes, release_stays}
 use Rattle.b1_inv_due.proofs.Fronts.{answers_released, front_released, front_there, released_front, none_behind}
-use Rattle.b1_inv_due.proofs.Comes.{owner_before, owner_after, notice_total, after_live, changed_here}
+use Rattle.b1_inv_due.proofs.Comes.{owner_before, owner_after, notice_total, after_live, changed_here, live_here, before_is, after_is}
 
+-- a test of three parts passes where each does
 all_three : (a b c : Bool) → a ≡ true → b ≡ true → c ≡ true → (a && b && c) ≡ true
 all_three a b c first second third = ap (λ z. z && b && c) first ∙ ap (λ z. z && c) second ∙ third
 
+-- only a counted attach passes
 counted_is : (a : Attach) → elim a [ attach.Counted ↦ true | other ↦ false ] ≡ true → a ≡ attach.Counted
 counted_is attach.Counted is = refl
 counted_is attach.Own is = absurd (cc is)
@@ -57,11 +59,13 @@ released_by mine (Ok (receipt.Released stamp number)) is = (receipt.Released sta
 released_by mine (Ok (receipt.Destroyed k number)) is = absurd (cc is)
 released_by mine (Ok (receipt.Message k number offset numbers payload)) is = absurd (cc is)
 
+-- and the other way round
 by_released : (mine : ℕ) (got : Receipt) → answers_released mine got ≡ true → elim got [ receipt.Released stamp number ↦ number == mine | other ↦ false ] ≡ true
 by_released mine (receipt.Released stamp number) is = is
 by_released mine (receipt.Destroyed k number) is = absurd (cc is)
 by_released mine (receipt.Message k number offset numbers payload) is = absurd (cc is)
 
+-- where no other test passes, the first one does
 either_is : (b : Bool) → elim b [ true ↦ true | false ↦ false ] ≡ true → b ≡ true
 either_is true is = refl
 either_is false is = absurd (cc is)
@@ -70,9 +74,11 @@ module _ {o : Opening} {s : State} {p : ℕ} {command : Option Command} {t : Sta
   abbrev k : Did o step.local.memory step.driver command step.peer step.action step.at step.new_driver step.new_peer
   k = step_did step
 
+  -- the part of the event's peer after an event
   abbrev after : Action → PeerPart
   after action = (happens o step.local.memory k.e k.doing action step.peer).1
 
+  -- release notices of that peer are right
   releases : ReleasesOk step.peer
   releases = record {
     live = λ serial key h. right.parts.releases.live step.at serial step.peer key step.is_peer h;
@@ -125,6 +131,7 @@ module _ {o : Opening} {s : State} {p : ℕ} {command : Option Command} {t : Sta
     takes_is key act.Flush is tt = absurd (no_flush is live)
     takes_is key action is none = absurd none
 
+    -- a notice that is no longer there was taken out by one of the three
     pub goes_here : has_release_notice node.serial step.peer ≡ true → has_release_notice node.serial step.new_peer ≡ false → takes_notice node step.at step.peer t step.action ≡ true
     goes_here there none =
         let found = notice_there node.serial step.peer there in
@@ -152,6 +159,7 @@ module _ {o : Opening} {s : State} {p : ℕ} {command : Option Command} {t : Sta
   takes_here action is takes = absurd (cc takes)
 
   module _ (here : node.owner ≡ step.at) (live : is_live (node_at step.peer node.serial).state ≡ true) where
+    -- the event's peer is the node's owner
     own_peer : IsPeer s node.owner step.peer
     own_peer = owner_before sound right step node here
 
@@ -173,6 +181,7 @@ module _ {o : Opening} {s : State} {p : ℕ} {command : Option Command} {t : Sta
             let found = notice_there node.serial step.new_peer is in
             absurd (cc (sym ended ∙ live_by t node step.new_peer (owner_after sound right step node here) ∙ after_live sound right step node here found.0 found.1))
 
+    -- each of the three leaves none
     gone_after : (action : Action) → step.action ≡ action → takes_notice node step.at step.peer t action ≡ true → has_release_notice node.serial step.new_peer ≡ false
     gone_after (act.Attach peer one dest) is takes =
         let all = and_parts ((peer == node.owner) && (one == node.serial)) _ (either_is (is_attach_of node step.peer (act.Attach peer one dest)) takes) in
@@ -188,21 +197,17 @@ module _ {o : Opening} {s : State} {p : ℕ} {command : Option Command} {t : Sta
   -- ---- wherever the node's owner is
 
   module _ (live : is_live_in s node ≡ true) where
-    live_here : (here : node.owner ≡ step.at) → is_live (node_at step.peer node.serial).state ≡ true
-    live_here here = sym (live_by s node step.peer (owner_before sound right step node here)) ∙ live
-
-    after_is : (here : node.owner ≡ step.at) → is_notified t node ≡ has_release_notice node.serial step.new_peer
-    after_is here = notified_by t node step.new_peer (owner_after sound right step node here)
-
+    -- a notice goes only with one of the three
     pub goes_forth : is_notified s node ≡ true → is_notified t node ≡ false → takes_notice node step.at step.peer t step.action ≡ true
     goes_forth there none =
         let here = changed_here sound right step node live (λ same. cc (sym there ∙ same ∙ none)) in
-        goes_here here (live_here here) (sym (notified_by s node step.peer (owner_before sound right step node here)) ∙ there) (sym (after_is here) ∙ none)
+        goes_here here (live_here sound right step node live here) (sym (before_is sound right step node live here) ∙ there) (sym (after_is sound right step node live here) ∙ none)
 
+    -- and with each of the three it goes
     pub goes_back : takes_notice node step.at step.peer t step.action ≡ true → is_notified t node ≡ false
     goes_back takes =
         let here = takes_here step.action refl takes in
-        after_is here ∙ gone_after here (live_here here) step.action refl takes
+        after_is sound right step node live here ∙ gone_after here (live_here sound right step node live here) step.action refl takes
 
     -- nobody has a reference where it is taken
     pub taken_none : is_receipt_of node step.at step.peer step.action ≡ true → total s node ≡ 0
@@ -211,6 +216,6 @@ module _ {o : Opening} {s : State} {p : ℕ} {command : Option Command} {t : Sta
         by : (action : Action) → is_receipt_of node step.at step.peer action ≡ true → total s node ≡ 0
         by act.Recv received_it =
             let here = sym (receipt_by received_it).0 in
-            let found = front_of here (live_here here) received_it in
+            let found = front_of here (live_here sound right step node live here) received_it in
             notice_total sound right step node here found.0 found.1
         by action none = absurd (cc none)

@@ -19,6 +19,7 @@ use Rattle.b1_inv_refs.proofs.SameWires.{any_has, any_none}
 
 -- ---- one part
 
+-- an entry that is a node's release notice
 release_is : (serial : ℕ) (f : Key × Entry) → is_release_notice serial f ≡ true → f ≡ (f.0, ReleaseNotice serial)
 release_is serial (k, Message origin user index mine offset len nodes slots handles payload) is = absurd (cc is)
 release_is serial (k, OwnNotice mine index) is = absurd (cc is)
@@ -37,12 +38,14 @@ has_any test xs x h passes = by (list_any test xs) refl
 pub notice_there : (serial : ℕ) (x : PeerPart) → has_release_notice serial x ≡ true → (k : Key) × Has x.queue (k, ReleaseNotice serial)
 notice_there serial x is = let found = any_has (is_release_notice serial) x.queue is in (found.0.0, subst (Has x.queue) (release_is serial found.0 found.2) found.1)
 
+-- and the other way round
 pub there_notified : (serial : ℕ) (x : PeerPart) (k : Key) → Has x.queue (k, ReleaseNotice serial) → has_release_notice serial x ≡ true
 there_notified serial x k h = has_any (is_release_notice serial) x.queue (k, ReleaseNotice serial) h (eq-eqb serial serial refl)
 
 -- ---- states
 
 module _ (s : State) (node : NodeRef) where
+  -- the two tests, by the part of the owner
   pub notified_by : (x : PeerPart) → IsPeer s node.owner x → is_notified s node ≡ has_release_notice node.serial x
   notified_by x is = ap (λ r. elim r [ None ↦ false | Some y ↦ has_release_notice node.serial y ]) is
 

@@ -41,6 +41,7 @@ module _ (key : Key) (serial : ℕ) where
   stays_apart : (one : ℕ) (queue : List (Key × Entry)) → (serial ≡ one → ⊥) → Has queue notice → Has (without (is_release_notice one) queue) notice
   stays_apart one queue apart has = has_without (is_release_notice one) queue notice has (ne_eqb serial one apart)
 
+  -- at a destruction's begin that of a doomed node alone leaves
   at_own : (x : PeerPart) (here : ℕ) (serials : List ℕ) (queue : List (Key × Entry)) → Has queue notice → Has (with_own_notices x here serials queue) notice ⊎ Has serials serial
   at_own x here [] queue has = inl has
   at_own x here (one ∷ rest) queue has = elim (cases_eq serial one) [
@@ -55,11 +56,13 @@ module _ (key : Key) (serial : ℕ) where
   at_destroy (Some r) doomed x has = inl has
   at_destroy None doomed x has = elim (at_own x 0 doomed x.queue has) [ inl stays ↦ inl stays | inr there ↦ inr (there, refl) ]
 
+  -- at an attach that counts, that of the attached node alone
   at_attach : (a : Attach) (x : PeerPart) (one dest : ℕ) → Has x.queue notice → Has (attached_by a x one dest).queue notice ⊎ ((serial ≡ one) × (a ≡ attach.Counted))
   at_attach attach.Counted x one dest has = elim (cases_eq serial one) [ inl same ↦ inr (same, refl) | inr apart ↦ inl (stays_apart one x.queue apart has) ]
   at_attach attach.Own x one dest has = inl has
   at_attach (attach.Void stamp) x one dest has = inl has
 
+  -- at visits, drops, stages, unstages and commits it stays
   at_notice : (b : Bool) (origin here : ℕ) (node : NodeRef) (x : PeerPart) → Has x.queue notice → Has (notice_by b origin x here node).queue notice
   at_notice true origin here node x has = has_put_old _ _ x.queue notice has
   at_notice false origin here node x has = has
@@ -86,11 +89,13 @@ module _ (key : Key) (serial : ℕ) where
   at_commit (Some g) x origin index stamp slots has = has_put_old _ _ (without (is_stage origin index) x.queue) notice (has_without (is_stage origin index) x.queue notice has refl)
 
   module _ (even : is_staged (key, ReleaseNotice serial) ≡ false) where
+    -- at a commit of notices too, as it isn't staged
     at_notices : (x : PeerPart) (origin stamp : ℕ) → Has x.queue notice → Has (notices_committed x origin stamp).queue notice
     at_notices x origin stamp has =
         has_put_all_old (map (with_stamp stamp) (filter (is_staged_notice origin) x.queue)) (without (is_staged_notice origin) x.queue) notice
         (has_without (is_staged_notice origin) x.queue notice has (ap (λ b. true && b && (key.origin == origin)) even))
 
+    -- at a RECV it stays unless it is taken, since it is never for nobody
     at_recv : (x : PeerPart) → Has x.queue notice → Has (received_part x).queue notice ⊎ IsTakenFront x notice
     at_recv x has = elim (recv_keeps x notice has) [
       | inl stays ↦ inl stays
@@ -99,6 +104,7 @@ module _ (key : Key) (serial : ℕ) where
     ]
 
     module _ (o : Opening) (memory : Bool) (d : DriverPart) (doing : Doing) (x : PeerPart) (has : Has x.queue (key, ReleaseNotice serial)) where
+      -- events that leave the queue
       same_queue : (action : Action) → (happens o memory d doing action x).1.queue ≡ x.queue → Has (happens o memory d doing action x).1.queue notice ⊎ Takes doing x action
       same_queue action same = inl (subst (λ queue. Has queue notice) (sym same) has)
 

@@ -22,6 +22,7 @@ all_in_range passes value (c ∷ rest) from values =
     ap (λ b. b && list_all (λ q. passes (value q)) (range_with_len (from + 1) (length rest))) (ap passes (ap value first ∙ values zero))
     ∙ ap (λ b. passes c && b) (all_in_range passes value rest (from + 1) (λ i. let moved : (from + 1) + i ≡ from + suc i = omega arith in ap value moved ∙ values (suc i)))
 
+-- a number that isn't 0
 positive : (n : ℕ) → (n == 0) ≡ false → 0 < n
 positive zero is = absurd (cc is)
 positive (suc n) is = omega arith
@@ -31,6 +32,7 @@ module _ {o : Opening} {s : State} (sound : IsSound o s) (node : NodeRef) (x : P
   pub fresh_count : (q : ℕ) → fresh s node q ≡ count_of (node_at x node.serial) q
   fresh_count q = sym (sound.references.counts node q) ∙ ap (λ r. elim r [ None ↦ 0 | Some y ↦ count_of (node_at y node.serial) q ]) is
 
+  -- one test for both
   total_none : (total s node == 0) ≡ is_unheld (node_at x node.serial)
   total_none =
       sum_by-zero (fresh s node) (range_with_len 0 (length s.peers))

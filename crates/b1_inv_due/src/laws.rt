@@ -10,10 +10,10 @@ ghost use Rattle.b1_model.specs.MachineStep.{Step, opening_state};
 ghost use Rattle.b1_inv.specs.Sound.{IsSound};
 ghost use Rattle.b1_inv_record.specs.Right.{IsRight};
 
-/// Release notices are queued exactly when they are due. Where a bus begins none is queued, and only live nodes ever have
-/// one. It comes at the drop that takes the last reference to its node back, with the owner's clock; it goes when an
-/// attach counts a reference again, when its node's destruction begins, or when its owner takes it, and it is taken only
-/// where nobody has a reference.
+/// Release notices come and go exactly when they are due. Where a bus begins none is queued, and in a right state only
+/// live nodes have one. A live node's notice comes exactly at the drop that takes the last reference to it back, with its
+/// owner's clock; it goes exactly when an attach counts a reference again, when the node's destruction begins, or when the
+/// owner takes it, and it is taken only where nobody has a reference.
 pub fn release_notices_are_due()
     ensures opening { (o : Opening) → IsOpening o → NoneNotified (opening_state o) }
     ensures live { (o : Opening) (s : State) → IsSound o s → IsRight o s → OnlyLiveNotified s }

@@ -1,4 +1,4 @@
-//! Release notices are queued exactly while they are due, in every reached state and through every step.
+//! Release notices come and go exactly when they are due, in every step from a state that is sound and right.
 #![tactic(auto)]
 
 mod laws;
