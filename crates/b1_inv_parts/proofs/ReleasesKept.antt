@@ -89,7 +89,7 @@ module _ {o : Opening} {s : State} {p : ℕ} {command : Option Command} {t : Sta
   phase_fits (Flushing stamp) is at = tt
 
   -- what is owed is counted at its owner
-  drop_fits : (one : OwedDrop) (rest : List OwedDrop) → k.e.owed ≡ one ∷ rest → step.at ≡ one.node.owner → 1 ≤ count_of (node_at step.peer one.node.serial) one.holder
+  pub drop_fits : (one : OwedDrop) (rest : List OwedDrop) → k.e.owed ≡ one ∷ rest → step.at ≡ one.node.owner → 1 ≤ count_of (node_at step.peer one.node.serial) one.holder
   drop_fits one rest is here =
       let drop : IsDrop s one = sound.references.owed p step.driver one step.is_driver (subst (λ l. Has l one) (sym is ∙ k.opened.owed) (inl refl)) in
       let a = sound.references.counts one.node one.holder in
