@@ -51,7 +51,7 @@ Fits doing x action = ⊤
 -- ---- which events bring one
 
 -- a drop that leaves nobody with a reference
-abbrev NewRelease : PeerPart → Action → Key → ℕ → Type 0
+abbrev pub NewRelease : PeerPart → Action → Key → ℕ → Type 0
 NewRelease x (act.DropRefs peer serial holder n clock) k mine = (k ≡ record { stamp = max x.clock clock; origin = no_origin; index = serial }) × (mine ≡ serial) × (is_released (dropped_refs x serial holder n clock) serial ≡ true)
 NewRelease x action k mine = ⊥
 
@@ -66,7 +66,7 @@ staged_bit : (origin : ℕ) (f : Key × Entry) → is_staged_notice origin f ≡
 staged_bit origin f is = (and_parts (not (is_data f.1)) (is_staged f) (and_parts (not (is_data f.1) && is_staged f) (f.0.origin == origin) is).0).1
 
 module _ (o : Opening) (d : DriverPart) (doing : Doing) (x : PeerPart) (k : Key) (mine : ℕ) where
-  new_release : (action : Action) → Fits doing x action → Comes o d doing x action (k, ReleaseNotice mine) → NewRelease x action k mine
+  pub new_release : (action : Action) → Fits doing x action → Comes o d doing x action (k, ReleaseNotice mine) → NewRelease x action k mine
   new_release (act.Stage peer place) fits same = absurd (cc (ap (λ f. is_data f.1) same))
   new_release (act.Commit peer place stamp) fits (g, is, same) =
       let message : is_data g.1 ≡ true = stage_is_message d.me place g (find_has (is_stage d.me place) x.queue g is).1 in
@@ -127,7 +127,7 @@ at_doom : (late : List ℕ) (x : PeerPart) (collected : ℕ) (doomed : List ℕ)
 at_doom [] x collected doomed serial none = node_is _ _ (undoomed_state (Destroyed (final_stamp x collected)) doomed x.nodes serial none)
 at_doom (peer ∷ rest) x collected doomed serial none = same_node (node_at x serial)
 
-drop_node : (b : Bool) (x : PeerPart) (t serial : ℕ) → node_at (with_release_notice b x t) serial ≡ node_at x serial
+pub drop_node : (b : Bool) (x : PeerPart) (t serial : ℕ) → node_at (with_release_notice b x t) serial ≡ node_at x serial
 drop_node true x t serial = refl
 drop_node false x t serial = refl
 

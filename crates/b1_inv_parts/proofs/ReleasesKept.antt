@@ -38,7 +38,7 @@ module _ {o : Opening} {s : State} {p : ℕ} {command : Option Command} {t : Sta
   abbrev k : Did o step.local.memory step.driver command step.peer step.action step.at step.new_driver step.new_peer
   k = step_did step
 
-  at_own : (action : Action) → step.action ≡ action → peer_of k.e.me action ≡ k.e.me → step.at ≡ p
+  pub at_own : (action : Action) → step.action ≡ action → peer_of k.e.me action ≡ k.e.me → step.at ≡ p
   at_own action is own = k.is_at ∙ ap (peer_of k.e.me) is ∙ own ∙ k.opened.me ∙ sound.numbered.drivers p step.driver step.is_driver
 
   calm : (key : Key) (serial : ℕ) → Has step.peer.queue (key, ReleaseNotice serial) → is_staged (key, ReleaseNotice serial) ≡ false
@@ -101,7 +101,7 @@ module _ {o : Opening} {s : State} {p : ℕ} {command : Option Command} {t : Sta
       let some = drop.some in
       omega (arith, a, b, c, d, f, g, some)
 
-  next_fits : (owed : List OwedDrop) → k.e.owed ≡ owed → Fits k.doing step.peer step.action
+  pub next_fits : (owed : List OwedDrop) → k.e.owed ≡ owed → Fits k.doing step.peer step.action
   next_fits [] none =
       let at = k.is_action ∙ next_of k.e k.doing k.opened.is_open none in
       subst (Fits k.doing step.peer) (sym at) (phase_fits k.doing.phase refl at)
