@@ -1,3 +1,4 @@
+pub mod Promises
 pub use Rattle.b1_inv.specs.Sound
 pub use Rattle.b1_inv_record.specs.Right
 pub use Rattle.b1_model.specs.Legal

@@ -8,6 +8,7 @@ ghost use Rattle.b1_model.specs.MachineOrder.{Drained};
 ghost use Rattle.b1_model.specs.MachineStep.{Step, Reached, opening_state, record_of_state};
 ghost use Rattle.b1_inv.specs.Sound.{IsSound};
 ghost use Rattle.b1_inv_record.specs.Right.{IsRight};
+ghost use Rattle.b1_legal.specs.Promises.{StateKeepsPromises, StepsKeepPromises};
 
 /// Whatever list of steps led to a state from a valid opening, in whatever order: the parts of its peers and drivers
 /// stand to its record as they should, in queues, clocks, names, tables, destructions and holders.
@@ -31,4 +32,12 @@ pub fn every_reached_record_is_legal()
         (o : Opening) (s : State) → IsOpening o → Reached o s → Drained s
             → Whole o (record_of_state s)
     }
+{}
+
+/// Every step from a reached state queues and takes release notices exactly when they are due; a RECV takes the front, or
+/// shows the right one; destroy notices come once, and only attaches make a holder late. In every reached state each
+/// holder is told of a destruction that is done, and a refused SEND has left nothing.
+pub fn every_step_keeps_promises()
+    ensures steps { (o : Opening) (s : State) → IsOpening o → Reached o s → StepsKeepPromises o s }
+    ensures states { (o : Opening) (s : State) → IsOpening o → Reached o s → StateKeepsPromises o s }
 {}

@@ -1,7 +1,9 @@
 //! What the bus promises, over every interleaving of steps: each reached record is legal, and whole where its state is
-//! drained.
+//! drained; release notices, destroy notices and fronts are right at each step.
 #![tactic(auto)]
 
 mod laws;
 
-pub use laws::{every_reached_record_is_legal, every_reached_state_is_right};
+pub use laws::{
+    every_reached_record_is_legal, every_reached_state_is_right, every_step_keeps_promises,
+};

@@ -36,9 +36,9 @@ pub record IsDone (s : Script) (r : Record) : Type 0 where
   pub script : follows.Script s.opening s.commands r
 
 -- what is promised of a play: all that of its record; where it stalls, the record that was reached is legal
-abbrev pub KeepsPromises : Script → Played → Type 0
-KeepsPromises s (Done r) = IsDone s r
-KeepsPromises s (Stalled waiting reached) = Legal s.opening reached
+abbrev pub PlaysAsPromised : Script → Played → Type 0
+PlaysAsPromised s (Done r) = IsDone s r
+PlaysAsPromised s (Stalled waiting reached) = Legal s.opening reached
 
 -- a stall with its record, which shows no want of memory
 abbrev pub StallShown : Record → List ℕ → Played → Type 0

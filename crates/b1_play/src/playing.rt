@@ -2,7 +2,7 @@ ghost use Rattle.std.specs.Prelude.{◌≡◌, ◌<◌, [], length, IfOk, OnOk};
 ghost use Rattle.std.specs.List.{All};
 ghost use Rattle.b1_model.specs.Opening.{IsOpening};
 ghost use Rattle.b1_play.specs.Runs.{IsGood};
-ghost use Rattle.b1_play.specs.Plays.{Begun, KeepsPromises, PlaysScript, StallShown, TurnsTo};
+ghost use Rattle.b1_play.specs.Plays.{Begun, PlaysAsPromised, PlaysScript, StallShown, TurnsTo};
 
 use crate::copying::copy_lists;
 use crate::drain::drain_all;
@@ -38,7 +38,7 @@ pub fn play_script<Q: QueueKind, P: PoolKind>(
     requires lists { length script.now.commands ≡ length script.now.opening.peers }
     requires turns { All (λ p. p < length script.now.opening.peers) script.now.turns }
     ensures plays { IfOk result (λ played. PlaysScript script.now played) }
-    ensures promises { IfOk result (λ played. KeepsPromises script.now played) }
+    ensures promises { IfOk result (λ played. PlaysAsPromised script.now played) }
 {
     every_reached_state_is_sound();
     what_is_played_is_scripted();
@@ -118,7 +118,7 @@ pub fn play(alloc: Global, script: &Script) -> Result<Played, AllocError>
     requires lists { length script.now.commands ≡ length script.now.opening.peers }
     requires turns { All (λ p. p < length script.now.opening.peers) script.now.turns }
     ensures plays { IfOk result (λ played. PlaysScript script.now played) }
-    ensures promises { IfOk result (λ played. KeepsPromises script.now played) }
+    ensures promises { IfOk result (λ played. PlaysAsPromised script.now played) }
 {
     play_script::<PlainQueue, ListPool>(alloc, script)
 }

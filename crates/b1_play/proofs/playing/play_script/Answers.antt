@@ -1,6 +1,6 @@
 use Rattle.std.proofs.Common.{Ok, Err, Result}
 use Rattle.std.specs.Prelude.{IfOk}
-use Rattle.b1_play.specs.Plays.{KeepsPromises, PlaysScript}
+use Rattle.b1_play.specs.Plays.{PlaysAsPromised, PlaysScript}
 use Rattle.b1_play.specs.declared.playing.Played.{Played}
 use Rattle.b1_play.specs.declared.playing.Played.TheVariants.{Done, Stalled}
 use Rattle.b1_script.specs.declared.script.Script.{Script}
@@ -13,9 +13,9 @@ each P Q h (Err e) is = tt
 
 pub returns-clause-promises : goal.returns-clause-promises
 returns-clause-promises g c =
-    each (PlaysScript c.args.script.now) (KeepsPromises c.args.script.now) promised c.play_on.result c.play_on.ensures
+    each (PlaysScript c.args.script.now) (PlaysAsPromised c.args.script.now) promised c.play_on.result c.play_on.ensures
   where
-    promised : (played : Played) → PlaysScript c.args.script.now played → KeepsPromises c.args.script.now played
+    promised : (played : Played) → PlaysScript c.args.script.now played → PlaysAsPromised c.args.script.now played
     promised (Done r) play =
         let s = c.args.script.now in
         record {

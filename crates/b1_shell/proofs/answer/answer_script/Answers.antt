@@ -1,6 +1,6 @@
 use Rattle.std.proofs.Common.{subst}
 use Rattle.b1_schedule.specs.Schedule.{IsPlay, IsStall}
-use Rattle.b1_play.specs.Plays.{IsDone, KeepsPromises, PlaysScript}
+use Rattle.b1_play.specs.Plays.{IsDone, PlaysAsPromised, PlaysScript}
 use Rattle.b1_shell.proofs.Plays.{no_limits, serial_record}
 use Rattle.b1_shell.proofs.answer.answer_script.Goals as goal
 
@@ -23,7 +23,7 @@ returns-in_ok-print-in-Done c =
     let s = c.args.script.now in
     let r = c.in-Done.outcome in
     let play : IsPlay s.opening s.commands s.turns r = subst (PlaysScript s) c.in-Done.is c.in_ok-outcome.ensures.plays in
-    let kept : IsDone s r = subst (KeepsPromises s) c.in-Done.is c.in_ok-outcome.ensures.promises in
+    let kept : IsDone s r = subst (PlaysAsPromised s) c.in-Done.is c.in_ok-outcome.ensures.promises in
     record {
       outcome = r;
       played = play;
@@ -46,7 +46,7 @@ returns-in_ok-stall_report-in-Stalled c =
       outcome = r;
       stalls = stall;
       stuck = c.a_stalled_play_is_stuck.ensures s.opening s.commands s.turns c.in-Stalled.waiting r c.requires.opening stall;
-      legal = subst (KeepsPromises s) c.in-Stalled.is c.in_ok-outcome.ensures.promises;
+      legal = subst (PlaysAsPromised s) c.in-Stalled.is c.in_ok-outcome.ensures.promises;
       script = c.what_is_played_is_scripted.ensures.stalled s.opening s.commands s.turns c.in-Stalled.waiting r c.requires.opening (λ t reached. c.every_reached_state_is_sound.ensures.reached s.opening t c.requires.opening reached) stall;
       text_is = c.in_ok-stall_report-in-Stalled.ensures;
     }
