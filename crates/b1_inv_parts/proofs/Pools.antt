@@ -144,7 +144,7 @@ module _ (x : PeerPart) (f : Key × Entry) (rest : Queue) (is : x.queue ≡ f �
   front_up : Ascending (f ∷ rest)
   front_up = subst Ascending is ok.ascending
 
-front_gone : (x : PeerPart) (f : Key × Entry) (rest : Queue) → x.queue ≡ f ∷ rest → InOrder x → InOrder (without_front x f rest)
+pub front_gone : (x : PeerPart) (f : Key × Entry) (rest : Queue) → x.queue ≡ f ∷ rest → InOrder x → InOrder (without_front x f rest)
 front_gone x (k, Message origin user index serial offset len nodes slots handles payload) rest is ok = record {
   rising = rising_unexpected (foreign x.me nodes) x.handles ok.rising;
   ascending = (front_up x (k, Message origin user index serial offset len nodes slots handles payload) rest is ok).1;
@@ -183,7 +183,7 @@ at_slot a with slot.Attached = at_reference (record_or_none with a.part.handles)
 at_slot a with slot.Own = (refl, refl, refl)
 at_slot a with slot.Void = (refl, refl, refl)
 
-at_slots : (ss : List (NodeRef × Slot)) (a : Arriving) → Rising a.part.handles → SameStore a.part (fold slot_arrives a ss).part
+pub at_slots : (ss : List (NodeRef × Slot)) (a : Arriving) → Rising a.part.handles → SameStore a.part (fold slot_arrives a ss).part
 at_slots [] a up = record { pool = refl; queue = refl; slices = refl; rising = up }
 at_slots ((with, s) ∷ rest) a up =
     let further = at_slots rest (slot_arrives a (with, s)) (slot_rising a with s up) in
@@ -229,7 +229,7 @@ first_none (None ∷ rest) is r (inl same) = same
 first_none (None ∷ rest) is r (inr there) = first_none rest is r there
 first_none (Some s ∷ rest) is r h = absurd (cc is)
 
-stage_fits : (x : PeerPart) (user serial payload handles : ℕ) → stage_refusal x user serial payload handles ≡ None → slice_len payload handles ≤ largest_free x.slices
+pub stage_fits : (x : PeerPart) (user serial payload handles : ℕ) → stage_refusal x user serial payload handles ≡ None → slice_len payload handles ≤ largest_free x.slices
 stage_fits x user serial payload handles is =
     full_reason-none x.slices payload handles (first_none (stage_reasons x user serial payload handles) is (full_reason x.slices payload handles) (inr (inr (inr (inr (inr (inl refl)))))))
 

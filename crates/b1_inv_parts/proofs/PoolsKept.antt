@@ -60,7 +60,7 @@ low a b (y ∷ ys) t c (inl same) = let start = ap (λ s. s.offset) same in let 
 low a b (y ∷ ys) t c (inr there) = let further = low (a + y.len) b ys t c.3 there in omega (arith, further)
 
 -- and is the one that begins there
-at_own_offset : (a b : ℕ) (ys : List Slice) (t : Slice) → Cover a b ys → Has ys t → slice_at t.offset ys ≡ Some t
+pub at_own_offset : (a b : ℕ) (ys : List Slice) (t : Slice) → Cover a b ys → Has ys t → slice_at t.offset ys ≡ Some t
 at_own_offset a b [] t c h = absurd h
 at_own_offset a b (y ∷ ys) t c (inl same) = ap (λ e. cond e (Some y) (slice_at t.offset ys)) (eq-eqb y.offset t.offset (ap (λ s. s.offset) (sym same))) ∙ ap Some (sym same)
 at_own_offset a b (y ∷ ys) t c (inr there) =
@@ -129,11 +129,14 @@ pools_kept o s p c t sound keys right step =
 made_whole : (number : ℕ) (x : PeerPart) → x.slices ≡ whole_pool x.pool → (wire_made number x).slices ≡ whole_pool (wire_made number x).pool
 made_whole number x whole = elim (is_own number) as (λ b. (cond b (record x { nodes = with_made x.peers number x.nodes }) x).slices ≡ whole_pool (cond b (record x { nodes = with_made x.peers number x.nodes }) x).pool) [ true ↦ whole | false ↦ whole ]
 
+-- the pool of every part is free as a whole when a bus begins
+pub opening_whole : (o : Opening) (q : ℕ) (x : PeerPart) → IsPeer (opening_state o) q x → x.slices ≡ whole_pool x.pool
+opening_whole o = opening_each (λ y. y.slices ≡ whole_pool y.pool) made_whole (λ node dest y it. it) (λ node y it. it) o (λ me spec. refl)
+
 pub pools_begin : (o : Opening) → IsOpening o → PoolRight (opening_state o)
 pools_begin o opening =
     pool_of (opening_state o)
     (λ q x is.
-    let whole : x.slices ≡ whole_pool x.pool = opening_each (λ y. y.slices ≡ whole_pool y.pool) made_whole (λ node dest y it. it) (λ node y it. it) o (λ me spec. refl) q x is in
-    subst (λ ys. AreSliced x.pool x.queue ys) (sym whole)
+    subst (λ ys. AreSliced x.pool x.queue ys) (sym (opening_whole o q x is))
     (subst (λ queue. AreSliced x.pool queue (whole_pool x.pool)) (sym (opening_queue o q x is))
     (nothing_sliced x.pool (IsPool-whole_pool x.pool (pool_size o (opening_state o) opening (opening_numbered o) q x is)))))

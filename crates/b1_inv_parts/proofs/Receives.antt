@@ -17,9 +17,7 @@ discard_queue (OwnNotice serial index) x = refl
 discard_queue (ForeignNotice node index) x = refl
 discard_queue (ReleaseNotice serial) x = refl
 
-module _ (P : PeerPart → Type 0) (up : (x : PeerPart) → P x → Rising x.handles)
-    (gone : (x : PeerPart) (f : Key × Entry) (rest : Queue) → x.queue ≡ f ∷ rest → P x → P (without_front x f rest))
-    (takes : (x : PeerPart) (f : Key × Entry) (rest : Queue) → x.queue ≡ f ∷ rest → P x → P (taken_entry (record x { queue = rest }) f.0 f.1).1) where
+module _ (P : PeerPart → Type 0) (up : (x : PeerPart) → P x → Rising x.handles) (gone : (x : PeerPart) (f : Key × Entry) (rest : Queue) → x.queue ≡ f ∷ rest → P x → P (without_front x f rest)) where
   one_more : (x : PeerPart) (f : Key × Entry) (rest : Queue) (b : Bool) → x.queue ≡ f ∷ rest → (not (is_staged f) && is_for_nobody x f.1) ≡ b → P x → (P (without_front x f rest) → P (cleared (without_front x f rest))) → P (cleared x)
   one_more x f rest true is passes all further = subst P (sym (cleared_one x f rest (up x all) is passes)) (further (gone x f rest is all))
   one_more x f rest false is fails all further = subst P (sym (cleared_none x f rest (up x all) is fails)) all
@@ -28,6 +26,12 @@ module _ (P : PeerPart → Type 0) (up : (x : PeerPart) → P x → Rising x.han
   cleared_from [] x is all = subst P (sym (cleared_empty x is)) all
   cleared_from (f ∷ rest) x is all = one_more x f rest (not (is_staged f) && is_for_nobody x f.1) is refl all (λ left. cleared_from rest (without_front x f rest) (discard_queue f.1 (record x { queue = rest })) left)
 
+  -- a fact that the removals keep
+  pub cleared_all : (x : PeerPart) → P x → P (cleared x)
+  cleared_all x all = cleared_from x.queue x refl all
+
+module _ (P : PeerPart → Type 0) (up : (x : PeerPart) → P x → Rising x.handles) (gone : (x : PeerPart) (f : Key × Entry) (rest : Queue) → x.queue ≡ f ∷ rest → P x → P (without_front x f rest))
+    (takes : (x : PeerPart) (f : Key × Entry) (rest : Queue) → x.queue ≡ f ∷ rest → P x → P (taken_entry (record x { queue = rest }) f.0 f.1).1) where
   front_from : (b : Bool) (x : PeerPart) (f : Key × Entry) (rest : Queue) → x.queue ≡ f ∷ rest → P x → P (front_by b x f rest).1
   front_from true x f rest is all = all
   front_from false x f rest is all = takes x f rest is all
@@ -37,4 +41,4 @@ module _ (P : PeerPart → Type 0) (up : (x : PeerPart) → P x → Rising x.han
   taken_from (f ∷ rest) x is all = front_from (is_staged f) x f rest is all
 
   pub received_all : (x : PeerPart) → P x → P (received_part x)
-  received_all x all = taken_from (cleared x).queue (cleared x) refl (cleared_from x.queue x refl all)
+  received_all x all = taken_from (cleared x).queue (cleared x) refl (cleared_all P up gone x all)
