@@ -1,4 +1,6 @@
+pub mod Calls
 pub mod Goes
+pub mod Runs
 pub mod Seen
 pub mod Steps
 pub mod Takes
