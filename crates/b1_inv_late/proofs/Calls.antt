@@ -39,7 +39,7 @@ pub record IsCall (began origin : ℕ) (parties : List ℕ) (m : StampedCall) : 
   pub origin_is : m.origin ≡ origin
   pub keeps : (y : ℕ) → Has parties y → Has m.parties y
 
-has_with : (e : Event) (parties : List ℕ) (y : ℕ) → Has parties y → Has (parties_with e parties) y
+pub has_with : (e : Event) (parties : List ℕ) (y : ℕ) → Has parties y → Has (parties_with e parties) y
 has_with e parties y has = by (is_staging e.outcome)
   where
     by : (b : Bool) → Has (cond b (e.at ∷ parties) parties) y

@@ -1,5 +1,6 @@
 pub mod Calls
 pub mod Goes
+pub mod Orders
 pub mod Runs
 pub mod Seen
 pub mod Steps
