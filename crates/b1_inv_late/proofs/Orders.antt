@@ -1,14 +1,14 @@
 -- Along a list of steps: what begins where clocks have come up to a stamp gets a later one, and what is received has brought all clocks up.
-use Rattle.std.proofs.Common.{◌≡◌, ◌≢◌, ◌⊎◌, refl, sym, ap, subst, ◌∙◌, inl, inr, ℕ, zero, suc, ◌+◌, ◌<◌, ◌≤◌, List, [], ◌∷◌, Option, Some, None}
+use Rattle.std.proofs.Common.{◌≡◌, ◌≢◌, refl, sym, ap, subst, ◌∙◌, inl, inr, ℕ, zero, suc, ◌+◌, ◌<◌, List, [], ◌∷◌, Some}
 use Rattle.std.specs.Prelude.{slice_get}
-use Rattle.std.proofs.lemmas.Option.{same_Some, slice_get_within}
+use Rattle.std.proofs.lemmas.Option.{slice_get_within}
 use native.Mathlib.Omega.{arith}
 use Rattle.b1_model.specs.declared.naming.Key.{Key}
 use Rattle.b1_model.specs.declared.naming.Opening.{Opening}
 use Rattle.b1_model.specs.Opening.{IsOpening}
-use Rattle.b1_model.specs.MachineParts.{PeerPart, State, no_origin}
-use Rattle.b1_model.specs.MachineStep.{Step, Label, Leads, Run, opening_state}
-use Rattle.b1_model.specs.MachineOrder.{Event, event_of, events, is_begin, key_taken, StampedCall, stamped_call, stamped_calls, shares_party, HasCall, ReceivedBeforeSent, Late}
+use Rattle.b1_model.specs.MachineParts.{State, no_origin}
+use Rattle.b1_model.specs.MachineStep.{Step, Label, Leads, opening_state}
+use Rattle.b1_model.specs.MachineOrder.{Event, event_of, events, key_taken, StampedCall, stamped_call, stamped_calls, Late}
 use Rattle.b1_step.specs.Rights.{Has}
 use Rattle.b1_step.proofs.Lists.{has_at}
 use Rattle.b1_inv.specs.Sound.{IsSound}
@@ -17,7 +17,7 @@ use Rattle.b1_inv_record.specs.Right.{ClocksCover}
 use Rattle.b1_inv_cover.proofs.Covers.{covers_begin, covers_kept}
 use Rattle.b1_inv_cover.proofs.Stamped.{same_peer_at}
 use Rattle.b1_law.proofs.Reached.{opening_sound, step_sound}
-use Rattle.b1_inv_late.proofs.Calls.{parties_with, with_stamp, has_with, next_call, call_is, next_calls, later_calls, own_party, Shares, shares}
+use Rattle.b1_inv_late.proofs.Calls.{parties_with, has_with, next_call, call_is, next_calls, later_calls, own_party, Shares, shares}
 use Rattle.b1_inv_late.proofs.Runs.{Covered, Collected, HasReached, Brought, covered_kept, collected_other, reached_other, collected_own, reached_own, given_above, given_brings, brought_kept, received_covers}
 use Rattle.b1_inv_late.proofs.Steps.{Taken, taken}
 
