@@ -1,6 +1,8 @@
 pub mod Calls
 pub mod Goes
 pub mod Orders
+pub mod RowEvents
+pub mod RowReceivedFirst
 pub mod Runs
 pub mod Seen
 pub mod Steps
