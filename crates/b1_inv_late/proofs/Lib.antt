@@ -3,6 +3,7 @@ pub mod Goes
 pub mod Orders
 pub mod RowEvents
 pub mod RowReceivedFirst
+pub mod RowSentBelow
 pub mod Runs
 pub mod Seen
 pub mod Steps

@@ -4,7 +4,7 @@ use Rattle.std.specs.Prelude.{slice_get}
 use Rattle.b1_model.specs.declared.naming.Opening.{Opening}
 use Rattle.b1_model.specs.declared.events.Action.{Action}
 use Rattle.b1_model.specs.MachineParts.{PeerPart, DriverPart, State}
-use Rattle.b1_model.specs.MachineStep.{Label, Leads, Run, Step, begun, target, effect, with_parts, opening_state}
+use Rattle.b1_model.specs.MachineStep.{Label, Leads, Step, begun, target, effect, with_parts}
 use Rattle.b1_model.specs.MachineOrder.{Event, answer_at, event_of, events}
 
 -- the event of a step, and the state after it
