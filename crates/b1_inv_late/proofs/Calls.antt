@@ -1,6 +1,5 @@
 -- The stamped calls of events: what the first event makes of them, and what each of them is.
-use Rattle.std.proofs.Common.{◌≡◌, ◌≢◌, ◌⊎◌, refl, sym, ap, subst, ◌∙◌, inl, inr, ℕ, zero, suc, ◌+◌, ◌<◌, ◌==◌, Bool, true, false, cond, not, ◌||◌, List, [], ◌∷◌, Option, Some, None}
-use Rattle.std.specs.Prelude.{slice_get}
+use Rattle.std.proofs.Common.{◌≡◌, ◌≢◌, ◌⊎◌, refl, sym, ap, subst, ◌∙◌, inl, inr, ℕ, ◌+◌, ◌<◌, ◌==◌, Bool, true, false, cond, not, ◌||◌, List, [], ◌∷◌, Option, Some, None}
 use Rattle.std.specs.List.{list_any}
 use Rattle.std.proofs.lemmas.Bool.{eqb-true, eqb-false}
 use native.Mathlib.Omega.{arith}
@@ -39,7 +38,7 @@ pub record IsCall (began origin : ℕ) (parties : List ℕ) (m : StampedCall) : 
   pub origin_is : m.origin ≡ origin
   pub keeps : (y : ℕ) → Has parties y → Has m.parties y
 
-has_with : (e : Event) (parties : List ℕ) (y : ℕ) → Has parties y → Has (parties_with e parties) y
+pub has_with : (e : Event) (parties : List ℕ) (y : ℕ) → Has parties y → Has (parties_with e parties) y
 has_with e parties y has = by (is_staging e.outcome)
   where
     by : (b : Bool) → Has (cond b (e.at ∷ parties) parties) y

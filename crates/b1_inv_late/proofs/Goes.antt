@@ -1,11 +1,10 @@
 -- A command with a stamp goes on with it: it stays open until it has brought all clocks up, and loses no peer that it has reached.
-use Rattle.std.proofs.Common.{◌≡◌, ◌⊎◌, refl, sym, ap, subst, ◌∙◌, inl, inr, ℕ, ◌+◌, ◌≤◌, Bool, true, false, cond, not, nat_lt, List, [], ◌∷◌, length, Option, Some, None, Ok, Err}
+use Rattle.std.proofs.Common.{◌≡◌, refl, sym, ap, subst, ◌∙◌, ℕ, ◌+◌, ◌≤◌, Bool, true, false, cond, not, nat_lt, List, [], ◌∷◌, length, Option, Some, Ok, Err}
 use native.Mathlib.Omega.{arith}
 use Rattle.b1_model.specs.declared.commands.Command.{Command}
 use Rattle.b1_model.specs.declared.naming.Opening.{Opening}
 use Rattle.b1_model.specs.declared.events.Destruction.{Destruction}
 use Rattle.b1_model.specs.declared.events.Doing.{Doing}
-use Rattle.b1_model.specs.declared.events.Outcome.{Outcome}
 use Rattle.b1_model.specs.declared.events.Outcome.TheVariants as out
 use Rattle.b1_model.specs.declared.events.OwedDrop.{OwedDrop}
 use Rattle.b1_model.specs.declared.events.Phase.{Phase}
@@ -18,7 +17,7 @@ use Rattle.b1_model.specs.MachineDriver.{accepted_from, is_place, syncing, synci
 use Rattle.b1_model.specs.MachineTook.{goes_by, is_done, answer_of, turned, with_facts, took}
 use Rattle.b1_model.specs.MachineEvents.{collected_of}
 use Rattle.b1_step.specs.Rights.{Has}
-use Rattle.b1_inv.specs.Words.{is_accepted_place, stamp_of_phase}
+use Rattle.b1_inv.specs.Words.{stamp_of_phase}
 use Rattle.b1_inv_notices.proofs.Turns.{doing_in, opened, answered, may_end}
 use Rattle.b1_inv_late.specs.Parties.{is_early, AcceptedAt, Reaches, is_syncing}
 use Rattle.b1_inv_late.proofs.Turns.{first_accepted}

@@ -1,5 +1,9 @@
 pub mod Calls
 pub mod Goes
+pub mod Orders
+pub mod RowEvents
+pub mod RowReceivedFirst
+pub mod RowSentBelow
 pub mod Runs
 pub mod Seen
 pub mod Steps

@@ -1,5 +1,5 @@
 -- A step carries the facts on a call and on what was received: which clocks have come up, what was collected, and which peers were reached.
-use Rattle.std.proofs.Common.{◌≡◌, ◌≢◌, ◌⊎◌, refl, sym, ap, subst, ◌∙◌, inl, inr, ℕ, ◌+◌, ◌<◌, ◌≤◌, Bool, true, false, cond, List, [], ◌∷◌, Option, Some, None}
+use Rattle.std.proofs.Common.{◌≡◌, ◌≢◌, ◌⊎◌, refl, sym, ap, subst, ◌∙◌, inl, inr, ℕ, ◌<◌, ◌≤◌, Bool, true, false, cond, List, ◌∷◌, Option, Some}
 use Rattle.std.proofs.lemmas.Bool.{cases_eq}
 use Rattle.std.proofs.lemmas.Option.{same_Some}
 use native.Mathlib.Omega.{arith}
@@ -22,7 +22,7 @@ use Rattle.b1_inv_late.specs.Parties.{is_early, Reaches}
 use Rattle.b1_inv_late.proofs.Calls.{parties_with}
 use Rattle.b1_inv_late.proofs.Goes.{OpenAt}
 use Rattle.b1_inv_late.proofs.Seen.{seen}
-use Rattle.b1_inv_late.proofs.Steps.{Earlier, earlier, Stamped, stamped, goes_on, Taken, settled}
+use Rattle.b1_inv_late.proofs.Steps.{Earlier, earlier, stamped, goes_on, Taken, settled}
 
 -- ---- what is carried
 

@@ -7,7 +7,7 @@ use Rattle.b1_model.specs.declared.events.Phase.{Phase}
 use Rattle.b1_model.specs.declared.events.Phase.TheVariants.{Starting}
 use Rattle.b1_model.specs.declared.events.Doing.{Doing}
 use Rattle.b1_model.specs.declared.events.Outcome.{Outcome}
-use Rattle.b1_model.specs.MachineParts.{DriverPart, State}
+use Rattle.b1_model.specs.MachineParts.{State}
 use Rattle.b1_model.specs.MachineDriver.{next_action, peer_of}
 use Rattle.b1_model.specs.MachineTook.{took}
 use Rattle.b1_model.specs.MachineStep.{Step, begun_by, aimed, effect_by}

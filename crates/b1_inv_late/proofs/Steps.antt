@@ -5,9 +5,7 @@ use native.Mathlib.Omega.{arith}
 use Rattle.b1_model.specs.declared.commands.Command.{Command}
 use Rattle.b1_model.specs.declared.naming.Key.{Key}
 use Rattle.b1_model.specs.declared.naming.Opening.{Opening}
-use Rattle.b1_model.specs.declared.answers.Reason.{Reason}
 use Rattle.b1_model.specs.declared.entries.Entry.{Entry}
-use Rattle.b1_model.specs.declared.parts.Begun.{Begun}
 use Rattle.b1_model.specs.declared.events.Doing.{Doing}
 use Rattle.b1_model.specs.declared.events.Outcome.{Outcome}
 use Rattle.b1_model.specs.declared.events.OwedDrop.{OwedDrop}
@@ -19,19 +17,18 @@ use Rattle.b1_model.specs.MachineTook.{took}
 use Rattle.b1_model.specs.MachineEvents.{collected_of}
 use Rattle.b1_model.specs.MachineStep.{Step}
 use Rattle.b1_model.specs.MachineOrder.{event_of, is_begin, is_staging, stamp_given, key_taken}
-use Rattle.b1_step.specs.Rights.{Has}
 use Rattle.b1_inv.specs.Sends.{SendShape}
 use Rattle.b1_inv.specs.Stamps.{is_committing, is_committing_notices, WasCommitted, IsStampOf}
 use Rattle.b1_inv.specs.Sound.{IsSound}
-use Rattle.b1_inv.specs.Words.{IsPeer, IsDriver, stamp_of_phase, fixed_stamp}
+use Rattle.b1_inv.specs.Words.{IsPeer, IsDriver, stamp_of_phase}
 use Rattle.b1_inv_record.specs.Clocks.{Synced}
-use Rattle.b1_inv_notices.proofs.Turns.{doing_in, opened, answered, OnTurn, took_leaves}
+use Rattle.b1_inv_notices.proofs.Turns.{doing_in, opened, OnTurn, took_leaves}
 use Rattle.b1_inv_late.specs.Parties.{is_early, Reaches, is_syncing}
 use Rattle.b1_inv_late.proofs.Turns.{StagedAt, Early, turn_early}
-use Rattle.b1_inv_late.proofs.Seen.{Seen, seen, told}
+use Rattle.b1_inv_late.proofs.Seen.{seen, told}
 use Rattle.b1_inv_late.proofs.Tells.{HasPlace, staged_at, stamps}
-use Rattle.b1_inv_late.proofs.Takes.{TookKey, takes}
-use Rattle.b1_inv_late.proofs.Goes.{OpenAt, Gives, gives, still_open}
+use Rattle.b1_inv_late.proofs.Takes.{takes}
+use Rattle.b1_inv_late.proofs.Goes.{OpenAt, gives, still_open}
 
 -- ---- before the stamp
 

@@ -1,5 +1,5 @@
 -- A key that an event took is that of a committed entry of its peer's queue.
-use Rattle.std.proofs.Common.{◌≡◌, ◌⊎◌, refl, sym, ap, subst, ◌∙◌, inl, inr, ℕ, Bool, true, false, cond, List, [], ◌∷◌, length, Option, Some, None, Ok, Err, Result}
+use Rattle.std.proofs.Common.{◌≡◌, refl, sym, ap, subst, ◌∙◌, inl, inr, ℕ, Bool, true, false, cond, List, [], ◌∷◌, length, Option, Some, None, Ok, Err, Result}
 use Rattle.b1_model.specs.declared.commands.Command.{Command}
 use Rattle.b1_model.specs.declared.commands.Command.TheVariants as cmd
 use Rattle.b1_model.specs.declared.commands.SendCmd.{SendCmd}
@@ -14,20 +14,19 @@ use Rattle.b1_model.specs.declared.entries.Entry.{Entry}
 use Rattle.b1_model.specs.declared.entries.Entry.TheVariants.{Message, OwnNotice, ForeignNotice, ReleaseNotice}
 use Rattle.b1_model.specs.declared.events.Action.TheVariants as act
 use Rattle.b1_model.specs.declared.events.Outcome.{Outcome}
-use Rattle.b1_model.specs.declared.events.Outcome.TheVariants as out
 use Rattle.b1_model.specs.declared.events.OwedDrop.{OwedDrop}
 use Rattle.b1_model.specs.declared.events.Phase.{Phase}
 use Rattle.b1_model.specs.declared.events.Phase.TheVariants.{Starting, Staging}
 use Rattle.b1_model.specs.MachineParts.{PeerPart, DriverPart, is_staged}
 use Rattle.b1_model.specs.MachineSend.{send_refusal, stage_refusal}
-use Rattle.b1_model.specs.MachineReceive.{cleared, received, taken_entry, received_part, has_dead}
+use Rattle.b1_model.specs.MachineReceive.{cleared, received, taken_entry}
 use Rattle.b1_model.specs.MachineDriver.{node_of_place, send_of, first_action}
 use Rattle.b1_model.specs.MachineEvents.{begin_by, stage_by, user_of, happens, destroy_by, begin_refusal, begin_serials}
 use Rattle.b1_model.specs.MachineOrder.{key_taken}
 use Rattle.b1_step.specs.Rights.{Has}
 use Rattle.b1_step.specs.Ordered.{Rising}
 use Rattle.b1_inv_notices.proofs.Turns.{doing_in, opened, answered}
-use Rattle.b1_inv_taken.proofs.Clears.{Took, receives, cleared_same}
+use Rattle.b1_inv_taken.proofs.Clears.{receives, cleared_same}
 
 -- a committed entry of a queue with this key
 abbrev pub TookKey : PeerPart → Key → Type 0

@@ -1,37 +1,26 @@
 -- What an event tells of what it staged, and of what it took.
-use Rattle.std.proofs.Common.{◌≡◌, ◌⊎◌, refl, sym, ap, subst, ◌∙◌, inl, inr, ℕ, zero, suc, ◌+◌, ◌≤◌, ◌<◌, Bool, true, false, cond, List, [], ◌∷◌, get_or, length, Option, Some, None, Ok, Err, Result}
+use Rattle.std.proofs.Common.{◌≡◌, refl, sym, ap, ◌∙◌, ℕ, zero, suc, ◌<◌, Bool, true, false, cond, List, [], ◌∷◌, get_or, length, Option, Some, None, Ok, Err}
 use Rattle.std.specs.Prelude.{slice_get}
-use native.Mathlib.Omega.{arith}
 use Rattle.b1_model.specs.declared.commands.Command.{Command}
 use Rattle.b1_model.specs.declared.commands.Command.TheVariants as cmd
 use Rattle.b1_model.specs.declared.commands.SendCmd.{SendCmd}
 use Rattle.b1_model.specs.declared.parts.Begun.{Begun}
 use Rattle.b1_model.specs.declared.events.Destruction.{Destruction}
-use Rattle.b1_model.specs.declared.naming.Key.{Key}
 use Rattle.b1_model.specs.declared.naming.NodeRef.{NodeRef}
 use Rattle.b1_model.specs.declared.naming.Opening.{Opening}
 use Rattle.b1_model.specs.declared.answers.Reason.{Reason}
-use Rattle.b1_model.specs.declared.answers.Receipt.{Receipt}
-use Rattle.b1_model.specs.declared.answers.Receipt.TheVariants as receipt
-use Rattle.b1_model.specs.declared.answers.Front.{Front}
-use Rattle.b1_model.specs.declared.entries.Entry.{Entry}
-use Rattle.b1_model.specs.declared.entries.Entry.TheVariants.{Message, OwnNotice, ForeignNotice, ReleaseNotice}
 use Rattle.b1_model.specs.declared.events.Action.TheVariants as act
 use Rattle.b1_model.specs.declared.events.Outcome.{Outcome}
 use Rattle.b1_model.specs.declared.events.Outcome.TheVariants as out
 use Rattle.b1_model.specs.declared.events.OwedDrop.{OwedDrop}
 use Rattle.b1_model.specs.declared.events.Phase.{Phase}
-use Rattle.b1_model.specs.declared.events.Phase.TheVariants.{Starting, Staging, Unstaging, Attaching, Stamping, Syncing, Committing, Dropping, Reaping, Visiting, Dooming, SyncingNotices, CommittingOwn, CommittingNotices, Flushing}
-use Rattle.b1_model.specs.MachineParts.{PeerPart, DriverPart, is_staged}
+use Rattle.b1_model.specs.declared.events.Phase.TheVariants.{Starting, Staging, Stamping, Visiting, Dooming}
+use Rattle.b1_model.specs.MachineParts.{PeerPart, DriverPart}
 use Rattle.b1_model.specs.MachineSend.{send_refusal, stage_refusal, final_stamp}
-use Rattle.b1_model.specs.MachineReceive.{cleared, received, taken_entry}
 use Rattle.b1_model.specs.MachineDriver.{node_of_place, send_of, no_ref, first_action, next_action, peer_of}
 use Rattle.b1_model.specs.MachineEvents.{begin_by, stage_by, user_of, happens, destroy_by, begin_refusal, begin_serials}
-use Rattle.b1_model.specs.MachineOrder.{is_begin, is_staging, stamp_given, key_taken}
-use Rattle.b1_step.specs.Rights.{Has}
-use Rattle.b1_step.specs.Ordered.{Rising}
+use Rattle.b1_model.specs.MachineOrder.{is_staging, stamp_given}
 use Rattle.b1_inv_notices.proofs.Turns.{doing_in, opened, answered, get_there}
-use Rattle.b1_inv_taken.proofs.Clears.{Took, Receives, receives, cleared_same}
 use Rattle.b1_inv_late.proofs.Turns.{StagedAt}
 
 -- a SEND that stages has a place left

@@ -1,5 +1,5 @@
 -- What an answer makes of a command before its stamp: it collects no less, and loses no peer that it has reached.
-use Rattle.std.proofs.Common.{◌≡◌, ◌⊎◌, refl, sym, ap, subst, ◌∙◌, inl, inr, ℕ, zero, suc, ◌+◌, ◌≤◌, ◌<◌, max, Bool, true, false, cond, not, ◌&&◌, nat_lt, nat_le, List, [], ◌∷◌, ◌++◌, drop, get_or, length, Option, Some, None, Ok, Err}
+use Rattle.std.proofs.Common.{◌≡◌, refl, sym, subst, ◌∙◌, ℕ, zero, suc, ◌+◌, ◌≤◌, ◌<◌, max, Bool, true, false, cond, ◌&&◌, nat_lt, nat_le, List, [], ◌∷◌, ◌++◌, drop, get_or, length, Option, Some, None, Ok, Err}
 use Rattle.std.specs.Prelude.{slice_get, ⊤}
 use Rattle.std.proofs.lemmas.Bool.{lt-ltb}
 use native.Mathlib.Omega.{arith}
@@ -15,19 +15,17 @@ use Rattle.b1_model.specs.declared.parts.Visited.{Visited}
 use Rattle.b1_model.specs.declared.events.Destruction.{Destruction}
 use Rattle.b1_model.specs.declared.events.Outcome.{Outcome}
 use Rattle.b1_model.specs.declared.events.Outcome.TheVariants as out
-use Rattle.b1_model.specs.declared.events.OwedDrop.{OwedDrop}
 use Rattle.b1_model.specs.declared.events.Phase.{Phase}
-use Rattle.b1_model.specs.declared.events.Phase.TheVariants.{Starting, Staging, Unstaging, Attaching, Stamping, Syncing, Committing, Dropping, Reaping, Visiting, Dooming, SyncingNotices, CommittingOwn, CommittingNotices, Flushing}
+use Rattle.b1_model.specs.declared.events.Phase.TheVariants.{Starting, Staging, Unstaging, Attaching, Stamping, Syncing, Committing, Visiting, Dooming, SyncingNotices, CommittingOwn, CommittingNotices, Flushing}
 use Rattle.b1_model.specs.declared.events.Sending.{Sending}
 use Rattle.b1_model.specs.MachineTables.{with_peer}
-use Rattle.b1_model.specs.MachineDriver.{accepted_from, next_accepted, is_place, attaching, with_slot, collected_with, all_staged, staging, all_refused, unstaging, syncing, visiting, with_visit, syncing_notices, committing_notices, destroying, is_flushing, send_of, place_done, started, turn, Turn, Goes, Ends, node_of_place}
-use Rattle.b1_model.specs.MachineTook.{is_done}
-use Rattle.b1_model.specs.MachineOrder.{is_begin, is_staging, stamp_given}
+use Rattle.b1_model.specs.MachineDriver.{accepted_from, next_accepted, is_place, attaching, with_slot, collected_with, all_staged, staging, all_refused, unstaging, syncing, visiting, with_visit, syncing_notices, committing_notices, is_flushing, send_of, started, turn, Turn, Goes, Ends}
+use Rattle.b1_model.specs.MachineOrder.{is_begin, is_staging}
 use Rattle.b1_model.specs.MachineEvents.{collected_of}
 use Rattle.b1_step.specs.Rights.{Has}
-use Rattle.b1_inv.specs.Words.{is_accepted_place, stamp_of_phase}
+use Rattle.b1_inv.specs.Words.{is_accepted_place}
 use Rattle.b1_inv_notices.proofs.Sets.{has_with_peer, has_peer_new}
-use Rattle.b1_inv_late.specs.Parties.{is_early, AcceptedAt, Reaches, is_syncing}
+use Rattle.b1_inv_late.specs.Parties.{is_early, AcceptedAt, Reaches}
 
 -- ---- places
 
