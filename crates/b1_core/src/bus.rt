@@ -1,6 +1,9 @@
 ghost use Rattle.std.specs.Prelude.{◌≡◌, ◌<◌, true, false, length, IfOk, OnErr};
 ghost use Rattle.b1_model.specs.Opening.{IsOpening};
 ghost use Rattle.b1_model.specs.MachineStep.{opening_state, record_of_state};
+ghost use Rattle.b1_model.specs.Legal.{Legal};
+ghost use Rattle.b1_model.specs.MachineStep.{Reached};
+ghost use Rattle.b1_legal.specs.Promises.{StepsKeepPromises};
 ghost use Rattle.b1_core.specs.Turns.{driver_at, has_ended as has_ended_at, has_open, Drains, Turns};
 
 use crate::ending::records;
@@ -8,6 +11,7 @@ use crate::making::{copy_opening, make_drivers, make_peers};
 use crate::stepping::{drain_command, has_ended, is_open, turn, wanted};
 use crate::turn::Turn;
 use b1_driver::DriverState;
+use b1_legal::{every_reached_record_is_legal, every_step_keeps_promises};
 use b1_model::{CommandLists, Opening, PeerCalls, PeerLists, Record};
 use b1_peer::PeerState;
 use b1_pool::PoolKind;
@@ -75,14 +79,17 @@ impl<Q: QueueKind, P: PoolKind> Core<Q, P> {
     }
 
     /// One turn of peer p: the next event of its open command, or the first one of its next command, with its references
-    /// resolved; nothing where no command is open and none is left. An error is want of memory for the call before a
+    /// resolved; nothing where no command is open and none is left. Whatever step it is, release notices come and go when
+    /// they are due, and a receive takes the front or shows the right one. An error is want of memory for the call before a
     /// command's first event, and changes nothing.
     pub fn step(&mut self, p: u32) -> Result<Turn, AllocError>
         requires peer { p < length self.old.opening.peers }
         ensures turn { IfOk result (λ turn. Turns self.old p turn self.new) }
+        ensures promises { StepsKeepPromises self.old.opening self.old.state }
         ensures err { OnErr result (self.new ≡ self.old) }
         ensures closed { OnErr result (has_open self.old p ≡ false) }
     {
+        self.facts();
         match wanted(self.alloc, &self.commands, p, &self.drivers[p as usize])? {
             Some(command) => turn(
                 &self.opening,
@@ -102,9 +109,11 @@ impl<Q: QueueKind, P: PoolKind> Core<Q, P> {
         requires ended { has_ended_at self.old p ≡ true }
         requires there { (driver_at self.old.state p).shut ≡ false }
         ensures turn { IfOk result (λ turn. Drains self.old p turn self.new) }
+        ensures promises { StepsKeepPromises self.old.opening self.old.state }
         ensures err { OnErr result (self.new ≡ self.old) }
         ensures closed { OnErr result (has_open self.old p ≡ false) }
     {
+        self.facts();
         let command = drain_command(&self.drivers[p as usize]);
         turn(
             &self.opening,
@@ -139,10 +148,24 @@ impl<Q: QueueKind, P: PoolKind> Core<Q, P> {
         self.drivers[p as usize].is_shut()
     }
 
-    /// The record of the state. Takes no memory.
-    pub fn finish(self) -> Record
-        ensures { result ≡ record_of_state self.state }
+    /// What always holds of a bus: steps have led to its state, whose record is legal, and every step from it keeps what
+    /// is promised of steps. Does nothing.
+    pub fn facts(&self)
+        ensures reached { Reached self.now.opening self.now.state }
+        ensures legal { Legal self.now.opening (record_of_state self.now.state) }
+        ensures promises { StepsKeepPromises self.now.opening self.now.state }
     {
+        every_reached_record_is_legal();
+        every_step_keeps_promises();
+    }
+
+    /// The record of the state, which is legal. Takes no memory.
+    pub fn finish(self) -> Record
+        ensures record { result ≡ record_of_state self.state }
+        ensures reached { Reached self.opening self.state }
+        ensures legal { Legal self.opening result }
+    {
+        self.facts();
         let Core {
             peers,
             drivers,
