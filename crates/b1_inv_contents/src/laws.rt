@@ -18,8 +18,6 @@ pub fn receipts_have_what_was_sent()
 
 /// A step keeps the record legal, where whatever a peer takes next is its next entry by the record.
 pub fn right_fronts_keep_records_legal()
-    ensures {
-        (o : Opening) (s : State) (p : ℕ) (c : Option Command) (t : State) → IsSound o s
-            → IsRight o s → FrontIsNext o s → Step o s p c t → Legal o (record_of_state t)
-    }
+    ensures { (o : Opening) (s : State) (p : ℕ) (c : Option Command) (t : State) → IsSound o s
+        → IsRight o s → FrontIsNext o s → Step o s p c t → Legal o (record_of_state t) }
 {}

@@ -17,6 +17,8 @@ ghost use Rattle.b1_inv_record.specs.Right.{IsRight};
 pub fn release_notices_are_due()
     ensures opening { (o : Opening) → IsOpening o → NoneNotified (opening_state o) }
     ensures live { (o : Opening) (s : State) → IsSound o s → IsRight o s → OnlyLiveNotified s }
-    ensures due { (o : Opening) (s : State) (p : ℕ) (c : Maybe Command) (t : State) → IsSound o s → IsRight o s
-        → (step : Step o s p c t) (node : NodeRef) (is_live : is_live_in s node ≡ true) → ReleaseDue step node is_live }
+    ensures due { (o : Opening) (s : State) (p : ℕ) (c : Maybe Command) (t : State) → IsSound o s
+        → IsRight o s
+        → (step : Step o s p c t) (node : NodeRef) (is_live : is_live_in s node ≡ true)
+        → ReleaseDue step node is_live }
 {}

@@ -19,7 +19,7 @@ abbrev pub NextCall : ℕ → ℕ → List ℕ → Event → List Event → Stam
 NextCall began origin parties e rest m =
     ((e.driver ≢ origin) × (stamped_call began origin parties rest ≡ Some m))
     ⊎ ((e.driver ≡ origin) × (is_begin e.outcome ≡ false)
-        × (((stamp : ℕ) × (stamp_given e.outcome ≡ Some stamp) × (with_stamp began origin stamp parties ≡ m)) ⊎ (stamped_call began origin (parties_with e parties) rest ≡ Some m)))
+    × (((stamp : ℕ) × (stamp_given e.outcome ≡ Some stamp) × (with_stamp began origin stamp parties ≡ m)) ⊎ (stamped_call began origin (parties_with e parties) rest ≡ Some m)))
 
 pub next_call : (began origin : ℕ) (parties : List ℕ) (e : Event) (rest : List Event) (m : StampedCall) → stamped_call began origin parties (e ∷ rest) ≡ Some m → NextCall began origin parties e rest m
 next_call began origin parties e rest m is = by (e.driver == origin) (is_begin e.outcome) (stamp_given e.outcome) refl refl refl is

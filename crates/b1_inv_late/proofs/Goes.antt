@@ -69,16 +69,22 @@ module _ (o : Opening) (memory : Bool) (d : DriverPart) (command : Command) (x :
       let k : fixed ≡ stamp = cc same in
       subst (λ n. OpenAt n y (after (Syncing sending fixed place) [])) k
       (in_syncing (with_facts (opened d command (Syncing sending fixed place) []) (doing_in command (Syncing sending fixed place)) out.Sync) command sending fixed (accepted_from (place + 1) sending.places) y refl reached)
-  still_open (Syncing sending fixed place) (one ∷ rest) stamp y is same reached =
-      (doing_in command (Syncing sending fixed place),
-      stays_open (with_facts (opened d command (Syncing sending fixed place) (one ∷ rest)) (doing_in command (Syncing sending fixed place)) out.DropRefs) command (Syncing sending fixed place) refl, same, reached)
+  still_open (Syncing sending fixed place) (one ∷ rest) stamp y is same reached = (
+    doing_in command (Syncing sending fixed place),
+    stays_open (with_facts (opened d command (Syncing sending fixed place) (one ∷ rest)) (doing_in command (Syncing sending fixed place)) out.DropRefs) command (Syncing sending fixed place) refl,
+    same,
+    reached,
+  )
   still_open (SyncingNotices destruction fixed at) [] stamp y is same reached =
       let k : fixed ≡ stamp = cc same in
       subst (λ n. OpenAt n y (after (SyncingNotices destruction fixed at) [])) k
       (in_notices (with_facts (opened d command (SyncingNotices destruction fixed at) []) (doing_in command (SyncingNotices destruction fixed at)) out.Sync) command destruction fixed (at + 1) y reached)
-  still_open (SyncingNotices destruction fixed at) (one ∷ rest) stamp y is same reached =
-      (doing_in command (SyncingNotices destruction fixed at),
-      stays_open (with_facts (opened d command (SyncingNotices destruction fixed at) (one ∷ rest)) (doing_in command (SyncingNotices destruction fixed at)) out.DropRefs) command (SyncingNotices destruction fixed at) refl, same, reached)
+  still_open (SyncingNotices destruction fixed at) (one ∷ rest) stamp y is same reached = (
+    doing_in command (SyncingNotices destruction fixed at),
+    stays_open (with_facts (opened d command (SyncingNotices destruction fixed at) (one ∷ rest)) (doing_in command (SyncingNotices destruction fixed at)) out.DropRefs) command (SyncingNotices destruction fixed at) refl,
+    same,
+    reached,
+  )
   still_open phase owed stamp y is same reached = absurd (cc is)
 
   -- what the event does that gives a stamp

@@ -91,7 +91,7 @@ receipt_later o (l ∷ rest) s t sound covers run here began zero key e parties 
     let same : event_of run.1 ≡ e = cc at in
     let k = taken sound run.1 key named (ap (λ z. key_taken z.outcome) same ∙ takes) in
     let above = begun_later o (l ∷ rest) s t sound run began key.origin key.stamp parties (key.origin ∷ []) m (own_covered {l = l} sound run.1 key k) (λ d one is_driver is_open early y party peer. inl (only key.origin y peer)) is
-        (key.origin, inl refl, (call_is began key.origin parties (events o s (l ∷ rest) t run) m is).keeps key.origin own) in
+    (key.origin, inl refl, (call_is began key.origin parties (events o s (l ∷ rest) t run) m is).keeps key.origin own) in
     absurd (omega (arith, above, stamp))
   where
     only : (p y : ℕ) → Has (p ∷ []) y → y ≡ p
@@ -136,7 +136,7 @@ ordered o (l ∷ rest) s t sound covers run here zero key e m x named at takes o
     let same : event_of run.1 ≡ e = cc at in
     let k = taken sound run.1 key named (ap (λ z. key_taken z.outcome) same ∙ takes) in
     let above = begins_later o (l ∷ rest) s t sound run here key.stamp (key.origin ∷ []) m (own_covered {l = l} sound run.1 key k) of
-        (key.origin, inl refl, subst (Has m.parties) origin (own_party here (events o s (l ∷ rest) t run) m of)) in
+    (key.origin, inl refl, subst (Has m.parties) origin (own_party here (events o s (l ∷ rest) t run) m of)) in
     absurd (omega (arith, above, stamp))
 ordered o (l ∷ rest) s t sound covers run here (suc j) key e m x named at takes of stamp origin has later common =
     let next = after_sound o l s run.0 sound run.1 in

@@ -46,21 +46,23 @@ module _ (o : Opening) (l : Label) (s : State) (e : Event) (t : State) where
   one_at d action at None is_driver is_target is_peer same = absurd (cc same)
   one_at d action at (Some x) is_driver is_target is_peer same =
       let found : ◌≡◌ {A = Event × State} (record { driver = l.driver; at = at; outcome = answer_at o false (begun d l.command) x }, with_parts s l.driver at (effect o false d l.command x)) (e, t) = cc same in
-      let moved = ap (λ z. z.1) found in
-      (record {
-        driver = d;
-        action = action;
-        at = at;
-        peer = x;
-        new_driver = (effect o false d l.command x).0;
-        new_peer = (effect o false d l.command x).1;
-        is_driver = is_driver;
-        is_target = is_target;
-        is_peer = is_peer;
-        local = record { memory = false; after = refl };
-        drivers = ap (λ u. u.drivers) (sym moved);
-        peers = ap (λ u. u.peers) (sym moved);
-      }, ap (λ z. z.0) found)
+      let moved = ap (λ z. z.1) found in (
+        record {
+          driver = d;
+          action = action;
+          at = at;
+          peer = x;
+          new_driver = (effect o false d l.command x).0;
+          new_peer = (effect o false d l.command x).1;
+          is_driver = is_driver;
+          is_target = is_target;
+          is_peer = is_peer;
+          local = record { memory = false; after = refl };
+          drivers = ap (λ u. u.drivers) (sym moved);
+          peers = ap (λ u. u.peers) (sym moved);
+        },
+        ap (λ z. z.0) found,
+      )
 
   one_to : (d : DriverPart) (to : Option (Action × ℕ)) → slice_get s.drivers l.driver ≡ Some d → target d l.command ≡ to → heard_to o l s d to ≡ Some (e, t) → TellsOne o l s e t
   one_to d None is_driver is_target same = absurd (cc same)

@@ -98,7 +98,7 @@ module _ {o : Opening} {s : State} {p : ℕ} {c : Option Command} {t : State} (s
       let k = seen step in
       let peer = peer_of step.driver.me (next_action (opened step.driver k.command k.phase step.driver.owed)) in
       let h = early_took step.driver k.command k.phase step.driver.owed (told step) peer step.peer.clock (ap is_begin (sym k.tells) ∙ none)
-          (staged_at o step.local.memory step.driver k.command step.peer k.phase step.driver.owed has_place) doing (ap (λ e. e.doing) k.is_driver ∙ is) early in
+      (staged_at o step.local.memory step.driver k.command step.peer k.phase step.driver.owed has_place) doing (ap (λ e. e.doing) k.is_driver ∙ is) early in
       record {
         was = was_open h.0;
         early = h.0;

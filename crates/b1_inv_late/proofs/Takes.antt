@@ -46,9 +46,12 @@ recv_takes : (x : PeerPart) (key : Key) → Rising x.handles → key_of_front (r
 recv_takes x key up is = elim (receives x) [
   | inl none ↦ let both : Some key ≡ None = sym is ∙ ap key_of_front none.0.1 in absurd (cc both)
   | inr took ↦
-      let k = took.2 in
-      (took.0, (cleared_same x up).0 took.0 (subst (λ q. Has q took.0) (sym k.queue) (inl refl)), k.even,
-      entry_key (record (cleared x) { queue = took.1 }) took.0.0 took.0.1 key (sym (ap key_of_front k.answer) ∙ is))
+      let k = took.2 in (
+        took.0,
+        (cleared_same x up).0 took.0 (subst (λ q. Has q took.0) (sym k.queue) (inl refl)),
+        k.even,
+        entry_key (record (cleared x) { queue = took.1 }) took.0.0 took.0.1 key (sym (ap key_of_front k.answer) ∙ is),
+      )
 ]
 
 destroy_takes : (r : Option Reason) (doomed : List ℕ) (x : PeerPart) → key_taken (destroy_by r doomed x).0 ≡ None

@@ -83,7 +83,7 @@ module _ (o : Opening) (memory : Bool) (d : DriverPart) (command : Command) (x :
   staged_at phase [] has = refl
   staged_at phase (one ∷ rest) has = refl
 
--- ---- what was given
+  -- ---- what was given
 
   -- a stamp is given at the end of what comes before it, where nothing is owed
   abbrev pub Stamps : Phase → List OwedDrop → ℕ → Type 0

@@ -14,11 +14,9 @@ ghost use Rattle.b1_inv_legal.specs.Fronts.{FrontIsNext, FrontIsSent, SlotsArriv
 pub fn records_stay_legal()
     ensures opening_Legal { (o : Opening) → IsOpening o
         → Legal o (record_of_state (opening_state o)) }
-    ensures kept_Legal {
-        (o : Opening) (s : State) (p : ℕ) (c : Option Command) (t : State) → IsSound o s
-            → IsRight o s → FrontIsNext o s → FrontIsSent o s → Step o s p c t
-            → Legal o (record_of_state t)
-    }
+    ensures kept_Legal { (o : Opening) (s : State) (p : ℕ) (c : Option Command) (t : State)
+        → IsSound o s → IsRight o s → FrontIsNext o s → FrontIsSent o s → Step o s p c t
+        → Legal o (record_of_state t) }
 {}
 
 /// Whatever a peer takes next has what was sent: a message its destination's own number and its payload, with the

@@ -165,4 +165,3 @@ module _ {o : Opening} {s : State} (sound : IsSound o s) (right : IsRight o s) (
         by (Some key) is =
             let c = last_received r p key is in
             below_is_less key f.0 ∙ all_has sound right p d x is_driver is_peer idle key x.queue f (right.entries.gone.received p x c.0 key is_peer c.1 c.2).1 there
-

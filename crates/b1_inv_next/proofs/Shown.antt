@@ -169,7 +169,7 @@ module _ {o : Opening} {s : State} {p : ℕ} {c : Option Command} {t : State} (s
       fixed got fixes =
           let plain : Fixes (parts step).command Starting (happens o step.local.memory (going step) (going_doing step) act.Recv step.peer).0 got =
           subst (λ ph. Fixes (parts step).command ph (happens o step.local.memory (going step) (going_doing step) act.Recv step.peer).0 got) (starting sound right step recv).0
-              (subst (λ a. Fixes (parts step).command (parts step).phase (happens o step.local.memory (going step) (going_doing step) a step.peer).0 got) recv fixes) in
+          (subst (λ a. Fixes (parts step).command (parts step).phase (happens o step.local.memory (going step) (going_doing step) a step.peer).0 got) recv fixes) in
           plain ∙ ap (λ z. elim z [ Ok r ↦ answer.Got r | Err found ↦ refused_at (Again found) None ]) none
 
       by : SameCalls s t ⊎ NewCall step → is_candidate o.wires (record_of_state t) p (calls_len (record_of_state t) p) key ≡ is_candidate o.wires (record_of_state s) p (calls_len (record_of_state s) p) key

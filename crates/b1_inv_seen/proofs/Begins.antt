@@ -81,7 +81,7 @@ module _ {o : Opening} {s : State} (sound : IsSound o s) where
             let same : y ≡ step.peer = same_Some y step.peer (sym owner_was ∙ ap (slice_get s.peers) here.0 ∙ step.is_peer) in
             let alive_here : is_live (node_at step.peer node.serial).state ≡ true = subst (λ z. is_live (node_at z node.serial).state ≡ true) same alive in
             due (at_owner sound covered step q x (no_record node) y_then e_then (λ at. other (at ∙ sym here.0)) is_peer made some
-              (λ e is dead. let both : true ≡ false = sym alive_here ∙ dead in absurd (cc both)) here.0 here.1 driver_now (not_live (node_at y_then node.serial).state dying))
+            (λ e is dead. let both : true ≡ false = sym alive_here ∙ dead in absurd (cc both)) here.0 here.1 driver_now (not_live (node_at y_then node.serial).state dying))
       ]
     ]
       where

@@ -81,9 +81,9 @@ module _ {o : Opening} {s : State} {p : ℕ} {c : Option Command} {t : State} (s
     was_live alive = elim (begins_due sound right.holders.covered step key.stamp q x_was.0 d_was.0 (ref_of n) y_was.0 y e x_was.1 d_was.1 y_was.1 is_owner is_driver
         (y_was.0, y_was.1, node_made sound right step q k one key n there got seen y_was.0 y_was.1) alive dying
         (right.holders.travels.travels q k x_was.0 d_was.0 one key n y_was.0 x_was.1 d_was.1 there got was_seen y_was.1 was_alive)) [
-      | inl came ↦ inl (inl (let rise = clocks_rise step n.owner y_was.0 y y_was.1 is_owner in omega (arith, came, rise)))
-      | inr due ↦ inr due
-    ]
+          | inl came ↦ inl (inl (let rise = clocks_rise step n.owner y_was.0 y y_was.1 is_owner in omega (arith, came, rise)))
+          | inr due ↦ inr due
+        ]
 
     old_collected : Then key.stamp q y e
     old_collected = elim (live_or_dying (node_at y_was.0 n.serial).state was_alive) [ inl alive ↦ was_live alive | inr dies ↦ was_dying dies ]
@@ -107,7 +107,7 @@ module _ {o : Opening} {s : State} {p : ℕ} {c : Option Command} {t : State} (s
     held_before : (1 ≤ held_in (ref_of n) step.peer.handles) ⊎ TakenIn step.peer (ref_of n)
     held_before =
         let from = held_event (TakenIn step.peer) o step.local.memory (going step) (going_doing step) (going_action step) step.peer (λ node is. is) held_now.0
-            (subst (λ z. Has z.handles held_now.0) (is_new ∙ sym (parts step).is_peer) held_now.1) (let as_often = held_now.3 in omega (arith, as_often, some)) in
+        (subst (λ z. Has z.handles held_now.0) (is_new ∙ sym (parts step).is_peer) held_now.1) (let as_often = held_now.3 in omega (arith, as_often, some)) in
         elim (from.2.held (let as_often = held_now.3 in omega (arith, as_often, some))) [
           | inl was ↦
               let held = held_of step.peer.handles from.0 (sound.rising step.at step.peer step.is_peer) from.1 in

@@ -110,7 +110,7 @@ module _ {o : Opening} {s : State} {p : ℕ} {c : Option Command} {t : State} (s
       collected_on : low ≤ collected_now step.driver → Then
       collected_on enough =
           inl (inr (subst (λ d. low ≤ collected_now d) (sym new)
-              (collected_then low node.serial (collects_turn (parts step).command low node.serial step.driver.me (parts step).phase (going_answer step) (open_collected low enough node.serial own_dies) own_dies) new_dies)))
+          (collected_then low node.serial (collects_turn (parts step).command low node.serial step.driver.me (parts step).phase (going_answer step) (open_collected low enough node.serial own_dies) own_dies) new_dies)))
 
       visit_on : Has (to_visit step.driver) q → Then
       visit_on left = elim (cases_eq q step.at) [
@@ -121,7 +121,7 @@ module _ {o : Opening} {s : State} {p : ℕ} {c : Option Command} {t : State} (s
             let reached : low ≤ (visit_answer step.peer step.driver.me (doomed_of (parts step).phase)).clock = omega (arith, high, clock) in
             let turned = visit_turn (parts step).command low node.serial step.driver.me q (parts step).phase (visit_answer step.peer step.driver.me (doomed_of (parts step).phase)) reached (open_visit sound covered step q left).1 in
             inl (inr (subst (λ d. low ≤ collected_now d) (sym new)
-                (collected_then low node.serial (subst (λ a. OnTurn (parts step).command (Collects low node.serial) (turn step.driver.me (parts step).command (parts step).phase a)) (sym (visit_is q left)) turned) new_dies)))
+            (collected_then low node.serial (subst (λ a. OnTurn (parts step).command (Collects low node.serial) (turn step.driver.me (parts step).command (parts step).phase a)) (sym (visit_is q left)) turned) new_dies)))
       ]
 
       late_doomed : dooms (going_action step) ≡ true → Has step.peer.late q → Then

@@ -167,7 +167,7 @@ module _ (all : List Wire) (n : ℕ) (held : List Wire) (w : Wire) (rest : List 
       let l = k.part q x is in
       let z : PeerPart = record x { handles = changed_or_made node (more_held (next_number x.given)) x.handles; given = cond ((record_or_none node x.handles).held == 0) (x.given + 1) x.given } in
       let there : IsTable (handed (Some f.0) (ts q)) z.given z.handles = subst (λ m. IsTable (handed (Some f.0) (ts q)) (cond ((record_or_none m x.handles).held == 0) (x.given + 1) x.given) (changed_or_made m (more_held (next_number x.given)) x.handles)) f.2
-          (given_table (ts q) x.given x.handles l.rising l.numbered (tables q x is) f.0) in
+      (given_table (ts q) x.given x.handles l.rising l.numbered (tables q x is) f.0) in
       subst (λ t. IsTable t (wire_held node y).given (wire_held node y).handles) (sym (ap (λ v. handed v (ts q)) f.1))
       (subst (λ g. IsTable (handed (Some f.0) (ts q)) (cond ((record_or_none node y.handles).held == 0) (g + 1) g) (changed_or_made node (more_held (next_number g)) y.handles)) (sym seen.0)
       (subst (λ hs. IsTable (handed (Some f.0) (ts q)) (cond ((record_or_none node hs).held == 0) (x.given + 1) x.given) (changed_or_made node (more_held (next_number x.given)) hs)) (sym seen.1) there))

@@ -180,7 +180,7 @@ module _ {o : Opening} {s : State} {p : ℕ} {c : Option Command} {t : State} (s
     receives k at is =
         let tables : end_table o t p ≡ table_after look (received x).front (end_table o s p) = sym turn_is ∙ k.table ∙ ap (λ u. table_after look (received step.peer).front u) phase_is ∙ ap (λ z. table_after look (received z).front (end_table o s p)) at in
         let table : IsTable (end_table o t p) y.given y.handles = subst (λ u. IsTable u y.given y.handles) (sym tables) (subst (λ z. IsTable (table_after look (received x).front (end_table o s p)) z.given z.handles) (sym is)
-            (recv_table x (sound.rising p x was) (numbered sound right p x was) (flies sound right p x was) (has_slots sound right p x was) (own_numbered sound right p x was) (end_table o s p) (table_now (old_gap k.gap)) look (looks x was))) in
+        (recv_table x (sound.rising p x was) (numbered sound right p x was) (flies sound right p x was) (has_slots sound right p x was) (own_numbered sound right p x was) (end_table o s p) (table_now (old_gap k.gap)) look (looks x was))) in
         (table.given, λ none. table)
 
     releases : (k : Releases look w (parts step).command o step.local.memory step.driver step.peer (parts step).phase step.driver.owed (going_action step)) → step.peer ≡ x → y ≡ event x act.Release → After
@@ -206,7 +206,7 @@ module _ {o : Opening} {s : State} {p : ℕ} {c : Option Command} {t : State} (s
             (table.given, λ none. table)
         by true (Some node) found same part =
             let table : IsTable (end_table o t p) y.given y.handles = subst (λ u. IsTable u y.given y.handles) (sym same) (subst (λ z. IsTable (record { lines = lowered k.number (end_table o s p).lines; given = (end_table o s p).given }) z.given z.handles) (sym part)
-                (release_table (end_table o s p) x.given x.handles (sound.rising p x was) (numbered sound right p x was) (table_now (old_gap k.gap)) k.number node found)) in
+            (release_table (end_table o s p) x.given x.handles (sound.rising p x was) (numbered sound right p x was) (table_now (old_gap k.gap)) k.number node found)) in
             (table.given, λ none. table)
 
     flushes : Flushes look w (parts step).command o step.local.memory step.driver step.peer (parts step).phase step.driver.owed (going_action step) → y ≡ event x act.Flush → After

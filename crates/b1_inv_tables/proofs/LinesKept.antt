@@ -71,7 +71,7 @@ module _ {o : Opening} {s : State} {p : ℕ} {c : Option Command} {t : State} (s
     pub other_table : in_gap d ≡ false → IsTable (end_table o t q) y.given y.handles
     other_table none =
         subst (λ u. IsTable u y.given y.handles) (sym other_end) (subst (λ g. IsTable (end_table o s q) g y.handles) (sym other_same.0)
-            (kept_table (end_table o s q) x.given x.handles y.handles (numbered sound right q x was) other_same.1 (table_before sound right q d x is_driver was none)))
+        (kept_table (end_table o s q) x.given x.handles y.handles (numbered sound right q x was) other_same.1 (table_before sound right q d x is_driver was none)))
 
   given_after : (q : ℕ) (y : PeerPart) → IsPeer t q y → y.given ≡ (end_table o t q).given
   given_after q y now = by (driver_there q y now)

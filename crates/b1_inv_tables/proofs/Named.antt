@@ -62,7 +62,6 @@ own_from p i number (n ∷ rest) (m ∷ names) more same within = by (n.number =
     rest_same : node_numbers rest ++ more ≡ name_numbers names
     rest_same = cc same
 
-
     by : (b : Bool) → (n.number == number) ≡ b → cond (not b) (1 + position_or_len (λ k. k.number == number) rest) 0 < suc (length rest)
         → (position_or_len (λ k. k.number == number) rest < length rest → option_map ref_of (node_from p (suc i) number names) ≡ Some (record { owner = p; serial = suc i + position_or_len (λ k. k.number == number) rest }))
         → option_map ref_of (cond (number == m.number) (Some (record { owner = p; serial = i; epoch = m.epoch })) (node_from p (suc i) number names)) ≡ Some (record { owner = p; serial = i + cond (not b) (1 + position_or_len (λ k. k.number == number) rest) 0 })

@@ -204,11 +204,14 @@ module _ (t : Table) (count : ℕ) (hs : Handles) (up : Rising hs) (all : AreNum
 
     record_stays : (g : HandleRecord) (number : ℕ) → g.number ≡ Some number → (Has hs g × (same_ref node g.node ≡ false)) ⊎ ((z : HandleRecord) × (record_of node hs ≡ Some z) × (g ≡ less_held z)) → (l : Line) × Has (lowered n t.lines) l × IsLineOf g l
     record_stays g number is (inl (was, apart)) =
-        let f = k.records g number was is in
-        (f.0, lowered_other n t.lines f.0 f.1 (λ same.
-        let node_same : node ≡ g.node = sym of_node ∙ all.apart h g n had was is_n (f.2.0 ∙ ap Some same) in
-        let both : true ≡ false = sym (same_ref_itself node) ∙ ap (same_ref node) node_same ∙ apart in
-        absurd (cc both)), f.2)
+        let f = k.records g number was is in (
+          f.0,
+          lowered_other n t.lines f.0 f.1 (λ same.
+              let node_same : node ≡ g.node = sym of_node ∙ all.apart h g n had was is_n (f.2.0 ∙ ap Some same) in
+              let both : true ≡ false = sym (same_ref_itself node) ∙ ap (same_ref node) node_same ∙ apart in
+              absurd (cc both)),
+          f.2,
+        )
     record_stays g number is (inr (z, at, same)) = by (nat_lt 1 h.held) refl
       where
         is_h : g ≡ less_held h

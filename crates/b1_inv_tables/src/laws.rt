@@ -12,8 +12,6 @@ ghost use Rattle.b1_inv_record.specs.Right.{IsRight};
 /// as many numbers given; in the gap of a reset it is empty; and every bus begins so.
 pub fn tables_stay_lines()
     ensures opening_TableIsLines { (o : Opening) → IsOpening o → TableIsLines o (opening_state o) }
-    ensures kept_TableIsLines {
-        (o : Opening) (s : State) (p : ℕ) (c : Option Command) (t : State) → IsSound o s
-            → IsRight o s → Step o s p c t → TableIsLines o t
-    }
+    ensures kept_TableIsLines { (o : Opening) (s : State) (p : ℕ) (c : Option Command) (t : State)
+        → IsSound o s → IsRight o s → Step o s p c t → TableIsLines o t }
 {}

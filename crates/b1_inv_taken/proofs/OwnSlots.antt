@@ -201,9 +201,11 @@ module _ {o : Opening} {s : State} {p : ℕ} {c : Option Command} {t : State} (s
   ]
 
   pub own_slots_kept : OwnSlotsPresent o t
-  own_slots_kept = record { present = λ q j y f node is has node_is slot_is.
-      let low = before q j y f node is has node_is slot_is in
-      let same = first_stays sound right step q y f is has in omega (arith, low, same) }
+  own_slots_kept = record {
+    present = λ q j y f node is has node_is slot_is.
+        let low = before q j y f node is has node_is slot_is in
+        let same = first_stays sound right step q y f is has in omega (arith, low, same);
+  }
 
 pub own_slots_begin : (o : Opening) → OwnSlotsPresent o (opening_state o)
 own_slots_begin o = record { present = λ q j x f node is has node_is slot_is. absurd (subst (λ queue. Has queue f) (opening_queue o q x is) has) }

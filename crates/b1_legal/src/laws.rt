@@ -14,10 +14,8 @@ ghost use Rattle.b1_legal.specs.Promises.{StateKeepsPromises, StepsKeepPromises}
 /// stand to its record as they should, in queues, clocks, names, tables, destructions and holders.
 pub fn every_reached_state_is_right()
     ensures opening { (o : Opening) → IsOpening o → IsRight o (opening_state o) }
-    ensures step {
-        (o : Opening) (s : State) (p : ℕ) (c : Option Command) (t : State) → IsSound o s
-            → IsRight o s → Step o s p c t → IsRight o t
-    }
+    ensures step { (o : Opening) (s : State) (p : ℕ) (c : Option Command) (t : State) → IsSound o s
+        → IsRight o s → Step o s p c t → IsRight o t }
     ensures reached { (o : Opening) (s : State) → IsOpening o → Reached o s → IsRight o s }
 {}
 
@@ -25,13 +23,10 @@ pub fn every_reached_state_is_right()
 /// order; and what a peer received is a prefix of it, of what it accepted and what concerned it, with bytes and handles
 /// as they were sent. Where the state is drained, nothing is left to receive.
 pub fn every_reached_record_is_legal()
-    ensures legal {
-        (o : Opening) (s : State) → IsOpening o → Reached o s → Legal o (record_of_state s)
-    }
-    ensures whole {
-        (o : Opening) (s : State) → IsOpening o → Reached o s → Drained s
-            → Whole o (record_of_state s)
-    }
+    ensures legal { (o : Opening) (s : State) → IsOpening o → Reached o s
+        → Legal o (record_of_state s) }
+    ensures whole { (o : Opening) (s : State) → IsOpening o → Reached o s → Drained s
+        → Whole o (record_of_state s) }
 {}
 
 /// Every step from a reached state queues and takes release notices exactly when they are due; a RECV takes the front, or
@@ -39,5 +34,6 @@ pub fn every_reached_record_is_legal()
 /// holder is told of a destruction that is done, and a refused SEND has left nothing.
 pub fn every_step_keeps_promises()
     ensures steps { (o : Opening) (s : State) → IsOpening o → Reached o s → StepsKeepPromises o s }
-    ensures states { (o : Opening) (s : State) → IsOpening o → Reached o s → StateKeepsPromises o s }
+    ensures states { (o : Opening) (s : State) → IsOpening o → Reached o s
+        → StateKeepsPromises o s }
 {}

@@ -47,10 +47,7 @@ pub fn play_script<Q: QueueKind, P: PoolKind>(
 }
 
 // The same, as the machine plays.
-fn play_on<Q: QueueKind, P: PoolKind>(
-    alloc: Global,
-    script: &Script,
-) -> Result<Played, AllocError>
+fn play_on<Q: QueueKind, P: PoolKind>(alloc: Global, script: &Script) -> Result<Played, AllocError>
     requires opening { IsOpening script.now.opening }
     requires lists { length script.now.commands ≡ length script.now.opening.peers }
     requires turns { All (λ p. p < length script.now.opening.peers) script.now.turns }
