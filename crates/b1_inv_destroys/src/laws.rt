@@ -22,8 +22,8 @@ pub fn destructions_stay_own()
 pub fn notices_of_others_stay_right()
     ensures opening_ForeignNoticeRight { (o : Opening) → IsOpening o
         → ForeignNoticeRight o (opening_state o) }
-    ensures kept_ForeignNoticeRight { (o : Opening) (s : State) (p : ℕ) (c : Option Command) (t : State) → IsSound o s
-        → IsRight o s → Step o s p c t → ForeignNoticeRight o t }
+    ensures kept_ForeignNoticeRight { (o : Opening) (s : State) (p : ℕ) (c : Option Command)
+        (t : State) → IsSound o s → IsRight o s → Step o s p c t → ForeignNoticeRight o t }
 {}
 
 /// A step keeps own notices staged at their places until the commit at their own peer, and committed ones under the
@@ -41,8 +41,8 @@ pub fn own_notices_stay_right()
         → IsSound o s → IsRight o s → Step o s p c t → OwnUntaken t }
     ensures opening_TakenDestroyed { (o : Opening) → IsOpening o
         → TakenDestroyed (opening_state o) }
-    ensures kept_TakenDestroyed { (o : Opening) (s : State) (p : ℕ) (c : Option Command) (t : State) → IsSound o s
-        → IsRight o s → Step o s p c t → TakenDestroyed t }
+    ensures kept_TakenDestroyed { (o : Opening) (s : State) (p : ℕ) (c : Option Command)
+        (t : State) → IsSound o s → IsRight o s → Step o s p c t → TakenDestroyed t }
     ensures opening_OwnPresent { (o : Opening) → IsOpening o → OwnPresent o (opening_state o) }
     ensures kept_OwnPresent { (o : Opening) (s : State) (p : ℕ) (c : Option Command) (t : State)
         → IsSound o s → IsRight o s → Step o s p c t → OwnPresent o t }
@@ -55,6 +55,6 @@ pub fn own_notices_stay_right()
 pub fn doomed_nodes_stay_present()
     ensures opening_DoomedPresent { (o : Opening) → IsOpening o
         → DoomedPresent o (opening_state o) }
-    ensures kept_DoomedPresent { (o : Opening) (s : State) (p : ℕ) (c : Option Command) (t : State) → IsSound o s
-        → IsRight o s → Step o s p c t → DoomedPresent o t }
+    ensures kept_DoomedPresent { (o : Opening) (s : State) (p : ℕ) (c : Option Command)
+        (t : State) → IsSound o s → IsRight o s → Step o s p c t → DoomedPresent o t }
 {}

@@ -15,8 +15,8 @@ ghost use Rattle.b1_inv_record.specs.Right.{DestructionsRight, IsRight};
 pub fn destructions_stay_right()
     ensures opening_DestructionsRight { (o : Opening) → IsOpening o
         → DestructionsRight o (opening_state o) }
-    ensures kept_DestructionsRight { (o : Opening) (s : State) (p : ℕ) (c : Option Command) (t : State) → IsSound o s
-        → IsRight o s → Step o s p c t → DestructionsRight o t }
+    ensures kept_DestructionsRight { (o : Opening) (s : State) (p : ℕ) (c : Option Command)
+        (t : State) → IsSound o s → IsRight o s → Step o s p c t → DestructionsRight o t }
 {}
 
 /// Once all commits of a node's destruction are done, each holder of the node has its notice committed in its queue, or

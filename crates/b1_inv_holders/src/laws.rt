@@ -15,8 +15,8 @@ ghost use Rattle.b1_inv_record.specs.Right.{IsRight};
 /// has a later one.
 pub fn holders_of_ended_nodes()
     ensures opening_HolderCovered { (o : Opening) → IsOpening o → HolderCovered (opening_state o) }
-    ensures kept_HolderCovered { (o : Opening) (s : State) (p : ℕ) (c : Option Command) (t : State) → IsSound o s
-        → IsRight o s → Step o s p c t → HolderCovered t }
+    ensures kept_HolderCovered { (o : Opening) (s : State) (p : ℕ) (c : Option Command)
+        (t : State) → IsSound o s → IsRight o s → Step o s p c t → HolderCovered t }
     ensures opening_VoidRight { (o : Opening) → IsOpening o → VoidRight (opening_state o) }
     ensures kept_VoidRight { (o : Opening) (s : State) (p : ℕ) (c : Option Command) (t : State)
         → IsSound o s → IsRight o s → Step o s p c t → VoidRight t }

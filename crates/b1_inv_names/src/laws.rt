@@ -45,16 +45,16 @@ pub fn shut_peers_stay_empty()
 pub fn flushes_doom_all()
     ensures opening_FlushesDoomAll { (o : Opening) → IsOpening o
         → FlushesDoomAll (opening_state o) }
-    ensures kept_FlushesDoomAll { (o : Opening) (s : State) (p : ℕ) (c : Option Command) (t : State) → IsSound o s
-        → FlushesDoomAll s → Step o s p c t → FlushesDoomAll t }
+    ensures kept_FlushesDoomAll { (o : Opening) (s : State) (p : ℕ) (c : Option Command)
+        (t : State) → IsSound o s → FlushesDoomAll s → Step o s p c t → FlushesDoomAll t }
 {}
 
 /// A step leaves the table of a peer in the gap of a reset empty, and so it is when a bus begins.
 pub fn tables_are_empty_in_gaps()
     ensures opening_TableIsLines_gap { (o : Opening) → IsOpening o
         → GapIsEmpty o (opening_state o) }
-    ensures kept_TableIsLines_gap { (o : Opening) (s : State) (p : ℕ) (c : Option Command) (t : State) → IsSound o s
-        → IsRight o s → Step o s p c t → GapIsEmpty o t }
+    ensures kept_TableIsLines_gap { (o : Opening) (s : State) (p : ℕ) (c : Option Command)
+        (t : State) → IsSound o s → IsRight o s → Step o s p c t → GapIsEmpty o t }
 {}
 
 /// A step leaves every destroyed node destroyed.

@@ -23,8 +23,8 @@ pub fn what_holders_took_travels()
 pub fn what_holders_took_is_collected()
     ensures opening_SeenCollected { (o : Opening) → IsOpening o
         → SeenCollected o (opening_state o) }
-    ensures kept_SeenCollected { (o : Opening) (s : State) (p : ℕ) (c : Option Command) (t : State) → IsSound o s
-        → IsRight o s → Step o s p c t → SeenCollected o t }
+    ensures kept_SeenCollected { (o : Opening) (s : State) (p : ℕ) (c : Option Command)
+        (t : State) → IsSound o s → IsRight o s → Step o s p c t → SeenCollected o t }
 {}
 
 /// All that is said of names, tables and epochs of the record against the parts of peers: a step keeps it, and every bus

@@ -14,8 +14,8 @@ ghost use Rattle.b1_inv_record.specs.Right.{IsRight};
 pub fn old_nodes_stay_destroyed()
     ensures opening_OldNodesDestroyed { (o : Opening) → IsOpening o
         → OldNodesDestroyed o (opening_state o) }
-    ensures kept_OldNodesDestroyed { (o : Opening) (s : State) (p : ℕ) (c : Option Command) (t : State) → IsSound o s
-        → IsRight o s → Step o s p c t → OldNodesDestroyed o t }
+    ensures kept_OldNodesDestroyed { (o : Opening) (s : State) (p : ℕ) (c : Option Command)
+        (t : State) → IsSound o s → IsRight o s → Step o s p c t → OldNodesDestroyed o t }
 {}
 
 /// A step keeps each notice that its peer took in the epoch of its part among the receipts of that epoch, and every bus
@@ -23,14 +23,14 @@ pub fn old_nodes_stay_destroyed()
 pub fn taken_notices_stay_received()
     ensures opening_TakenHasReceipt { (o : Opening) → IsOpening o
         → TakenHasReceipt o (opening_state o) }
-    ensures kept_TakenHasReceipt { (o : Opening) (s : State) (p : ℕ) (c : Option Command) (t : State) → IsSound o s
-        → IsRight o s → Step o s p c t → TakenHasReceipt o t }
+    ensures kept_TakenHasReceipt { (o : Opening) (s : State) (p : ℕ) (c : Option Command)
+        (t : State) → IsSound o s → IsRight o s → Step o s p c t → TakenHasReceipt o t }
 {}
 
 /// A step keeps the own slots of queued messages to nodes of the epoch of the queue's part, and every bus begins so.
 pub fn own_slots_stay_present()
     ensures opening_OwnSlotsPresent { (o : Opening) → IsOpening o
         → OwnSlotsPresent o (opening_state o) }
-    ensures kept_OwnSlotsPresent { (o : Opening) (s : State) (p : ℕ) (c : Option Command) (t : State) → IsSound o s
-        → IsRight o s → Step o s p c t → OwnSlotsPresent o t }
+    ensures kept_OwnSlotsPresent { (o : Opening) (s : State) (p : ℕ) (c : Option Command)
+        (t : State) → IsSound o s → IsRight o s → Step o s p c t → OwnSlotsPresent o t }
 {}

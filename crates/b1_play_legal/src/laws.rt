@@ -13,6 +13,6 @@ pub fn plays_are_legal()
         → IsOpening o → IsPlay o lists turns r → Legal o r }
     ensures whole { (o : Opening) (lists : List (List Command)) (turns : List ℕ) (r : Record)
         → IsOpening o → IsPlay o lists turns r → Whole o r }
-    ensures stalled { (o : Opening) (lists : List (List Command)) (turns waiting : List ℕ) (r : Record)
-        → IsOpening o → IsStall o lists turns waiting r → Legal o r }
+    ensures stalled { (o : Opening) (lists : List (List Command)) (turns waiting : List ℕ)
+        (r : Record) → IsOpening o → IsStall o lists turns waiting r → Legal o r }
 {}
