@@ -1,9 +1,11 @@
 pub mod Calls
 pub mod Goes
 pub mod Orders
+pub mod RowAnswerAfter
 pub mod RowEvents
-pub mod RowReceivedFirst
 pub mod RowSentBelow
+pub mod RowStagedFront
+pub mod RowSyncedFirst
 pub mod Runs
 pub mod Seen
 pub mod Steps

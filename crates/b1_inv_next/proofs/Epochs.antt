@@ -1,6 +1,6 @@
 -- Names stand in the order of their epochs: those of the present epoch are the ones from its first node on.
 use Rattle.std.proofs.Common.{◌≡◌, ◌⊎◌, refl, sym, ap, subst, ◌∙◌, inl, inr, ℕ, zero, suc, ◌+◌, ◌≤◌, ◌<◌, ◌==◌, Bool, true, false, cond, ◌&&◌, not, nat_lt, List, [], ◌∷◌, ◌++◌, length, filter, map, Some, append-nil}
-use Rattle.std.specs.Prelude.{slice_get, ⊤}
+use Rattle.std.specs.Prelude.{slice_get}
 use Rattle.std.proofs.lemmas.Bool.{lt-ltb, ltb-true}
 use Rattle.std.proofs.lemmas.List.{append_assoc}
 use native.Mathlib.Omega.{arith}
@@ -8,7 +8,7 @@ use Rattle.b1_model.specs.declared.naming.Wire.{Wire}
 use Rattle.b1_model.specs.declared.answers.Answer.{Answer}
 use Rattle.b1_model.specs.declared.answers.Answer.TheVariants as ans
 use Rattle.b1_model.specs.declared.records.Call.{Call}
-use Rattle.b1_model.specs.Names.{Name, is_own, is_known, is_flush, wired, add_new, carried_by, next_epoch, made_in, epoch_in}
+use Rattle.b1_model.specs.Names.{Name, is_own, is_known, wired, add_new, carried_by, next_epoch, made_in, epoch_in}
 use Rattle.b1_ledger.proofs.Sequences.{Each, each-at}
 use Rattle.b1_ledger.proofs.Made.{each-append, each-more}
 use Rattle.b1_inv_record.specs.Epochs.{made_before}

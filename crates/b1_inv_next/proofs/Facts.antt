@@ -1,9 +1,9 @@
 -- Facts of records alone: where messages, notices and last receipts come from, which node is late, and epochs of names.
-use Rattle.std.proofs.Common.{◌≡◌, ◌⊎◌, refl, sym, ap, subst, ◌∙◌, inl, inr, ℕ, zero, suc, ◌+◌, ◌≤◌, ◌<◌, ◌==◌, Bool, true, false, cond, ◌&&◌, ◌||◌, nat_lt, List, [], ◌∷◌, ◌++◌, length, filter, flat_map, find, map, Option, Some, None, option_map}
-use Rattle.std.specs.Prelude.{slice_get, ⊤, option_and_then}
+use Rattle.std.proofs.Common.{◌≡◌, ◌⊎◌, refl, sym, ap, subst, ◌∙◌, inl, inr, ℕ, zero, suc, ◌+◌, ◌≤◌, ◌<◌, ◌==◌, Bool, true, false, cond, ◌||◌, List, [], ◌∷◌, ◌++◌, length, flat_map, find, map, Option, Some, None}
+use Rattle.std.specs.Prelude.{slice_get, option_and_then}
 use Rattle.std.specs.List.{list_any, range_with_len}
 use Rattle.std.specs.Option.{option_flatten}
-use Rattle.std.proofs.lemmas.Bool.{and_parts, cases_eq, eqb-true, eq-eqb, ne_eqb, lt-ltb, ltb-true}
+use Rattle.std.proofs.lemmas.Bool.{and_parts, cases_eq, eqb-true, eq-eqb, ne_eqb}
 use Rattle.std.proofs.lemmas.Option.{same_Some}
 use native.Mathlib.Omega.{arith}
 use Rattle.b1_model.specs.declared.commands.Command.{Command}
@@ -17,11 +17,11 @@ use Rattle.b1_model.specs.declared.answers.Receipt.TheVariants as rec
 use Rattle.b1_model.specs.declared.answers.Sent.{Sent}
 use Rattle.b1_model.specs.declared.records.Call.{Call}
 use Rattle.b1_model.specs.declared.records.Record.{Record}
-use Rattle.b1_model.specs.Names.{Node, Name, is_own, is_known, same_node, calls_of, wired, add_new, carried_by, next_epoch, made_in, made, epoch_in}
-use Rattle.b1_model.specs.Ledger.{stamp_of, got_key, is_before, is_the_node, has_node, Message, message, message_at, slots, to_at, is_send, sent_at, node_of, named, Table, table, Destruction, destruction_by, add_destruction, destructions_before, destructions_of, destructions, peers_of, node_at, doomed_at, is_late_by, is_late}
+use Rattle.b1_model.specs.Names.{Node, same_node, calls_of, made}
+use Rattle.b1_model.specs.Ledger.{got_key, is_before, is_the_node, has_node, Message, message, message_at, slots, is_send, sent_at, node_of, table, Destruction, destruction_by, add_destruction, destructions_before, destructions_of, destructions, peers_of, node_at, doomed_at, is_late_by, is_late}
 use Rattle.b1_model.specs.Legal.{last_after, last_in, last_key}
 use Rattle.b1_step.specs.Rights.{Has}
-use Rattle.b1_ledger.specs.Growth.{sent_call, destroy_stamp, RisesAt, all_names}
+use Rattle.b1_ledger.specs.Growth.{sent_call, destroy_stamp, RisesAt}
 use Rattle.b1_ledger.proofs.Bound.{message_is, message_of_call, one_call}
 use Rattle.b1_ledger.proofs.Calls.{stamp_of_destroy, node_of_notice}
 use Rattle.b1_ledger.proofs.Sequences.{take-end, and_of}

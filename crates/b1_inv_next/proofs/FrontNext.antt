@@ -1,43 +1,42 @@
 -- The front that a peer takes is its next entry, in key and kind.
-use Rattle.std.proofs.Common.{◌≡◌, ◌≢◌, ◌⊎◌, refl, sym, ap, subst, ◌∙◌, inl, inr, ℕ, zero, suc, ◌+◌, ◌≤◌, ◌<◌, ◌==◌, Bool, true, false, cond, ◌&&◌, not, List, [], ◌∷◌, length, get_or, Option, Some, None}
+use Rattle.std.proofs.Common.{◌≡◌, refl, sym, ap, subst, ◌∙◌, inl, inr, ℕ, zero, suc, ◌≤◌, ◌==◌, Bool, true, false, cond, not, List, [], ◌∷◌, Option, Some, None}
 use Rattle.std.specs.Prelude.{slice_get, is_some}
 use Rattle.std.proofs.lemmas.Bool.{and_parts, eq-eqb, eqb-true, ne_eqb}
-use Rattle.std.proofs.lemmas.Option.{same_Some, get_or_from_slice_get}
+use Rattle.std.proofs.lemmas.Option.{get_or_from_slice_get}
 use native.Mathlib.Omega.{arith}
 use Rattle.b1_model.specs.declared.naming.Key.{Key}
 use Rattle.b1_model.specs.declared.naming.NodeRef.{NodeRef}
 use Rattle.b1_model.specs.declared.naming.Opening.{Opening}
 use Rattle.b1_model.specs.declared.parts.Slot.{Slot}
-use Rattle.b1_model.specs.declared.answers.Answer.TheVariants as ans
 use Rattle.b1_model.specs.declared.entries.Entry.{Entry}
 use Rattle.b1_model.specs.declared.entries.Entry.TheVariants.{Message, OwnNotice, ForeignNotice, ReleaseNotice}
 use Rattle.b1_model.specs.declared.records.Record.{Record}
-use Rattle.b1_model.specs.Names.{Node, calls_of, same_node, epoch_at}
+use Rattle.b1_model.specs.Names.{Node, same_node, epoch_at}
 use Rattle.b1_model.specs.Ledger.{Line, is_below, is_before, is_the_node, line_number, table, message, doomed_at, to_at, is_accepted, is_node_of, is_entry, is_late}
-use Rattle.b1_model.specs.Legal.{is_above, last_key, is_open_to, is_message_in, is_message, is_notice_of, is_notice, is_candidate, IsLeast, IsNextReceipt}
+use Rattle.b1_model.specs.Legal.{is_above, last_key, is_open_to, is_message_in, is_message, is_notice_of, is_notice, IsNextReceipt}
 use Rattle.b1_model.specs.MachineParts.{PeerPart, NodePart, DriverPart, HandleRecord, State, is_staged, no_node, node_at, record_of, record_or_none, is_data}
-use Rattle.b1_model.specs.MachineReceive.{is_for_nobody, cleared, taken_entry}
+use Rattle.b1_model.specs.MachineReceive.{cleared}
 use Rattle.b1_model.specs.MachineStep.{record_of_state}
 use Rattle.b1_step.specs.Rights.{Has}
 use Rattle.b1_step.proofs.Orders.{behind_has}
 use Rattle.b1_inv.specs.Words.{IsPeer, IsDriver}
 use Rattle.b1_inv.specs.Sound.{IsSound}
 use Rattle.b1_ledger.specs.Growth.{calls_len, WasMade}
-use Rattle.b1_ledger.proofs.KeyOrder.{below_is, Below, Before, before_is, is_of_below, not_of_below}
+use Rattle.b1_ledger.proofs.KeyOrder.{below_is, Below, Before, before_is}
 use Rattle.b1_ledger.proofs.Made.{to_made, doomed_made}
 use Rattle.b1_ledger.proofs.NextAfter.{below_is_less}
-use Rattle.b1_ledger.proofs.Sequences.{and_of, or_left, or_right}
+use Rattle.b1_ledger.proofs.Sequences.{and_of}
 use Rattle.b1_inv_record.specs.Destructions.{own_ref, doomed_key, awaits_commit}
 use Rattle.b1_inv_record.specs.Epochs.{first_now, first_done, ref_of, is_ref}
 use Rattle.b1_inv_record.specs.Right.{IsRight}
 use Rattle.b1_inv_notices.proofs.Turns.{get_there}
 use Rattle.b1_inv_peer.proofs.RecordFields.{or_none}
 use Rattle.b1_inv_taken.proofs.Clears.{Queue}
-use Rattle.b1_inv_legal.specs.Fronts.{CanTake, taken_answer, FrontIsNext}
+use Rattle.b1_inv_legal.specs.Fronts.{taken_answer, FrontIsNext}
 use Rattle.b1_inv_next.proofs.Facts.{late_notice}
 use Rattle.b1_inv_next.proofs.Idle.{no_gap, first_same, is_present, node_there}
 use Rattle.b1_inv_next.proofs.Nobody.{MessageNode, ref_found, noticed_record, noticed_node, message_node}
-use Rattle.b1_inv_next.proofs.Fronts.{Kept, all_removed, there, served, ascending, least, above}
+use Rattle.b1_inv_next.proofs.Fronts.{all_removed, there, served, ascending, least, above}
 
 -- a message isn't before what it is behind
 apart_order : (a b : Key) → is_below a b ≡ true → is_before b.stamp b.origin a.stamp a.origin ≡ true → ⊥

@@ -1,21 +1,16 @@
 -- The front of a queue, once what is for nobody is removed, is the next entry of the record.
-use Rattle.std.proofs.Common.{◌≡◌, ◌≢◌, ◌⊎◌, refl, sym, ap, subst, ◌∙◌, inl, inr, ℕ, suc, ◌+◌, ◌≤◌, ◌<◌, ◌==◌, Bool, true, false, cond, ◌&&◌, not, List, [], ◌∷◌, length, get_or, Option, Some, None}
-use Rattle.std.specs.Prelude.{slice_get, is_some}
-use Rattle.std.proofs.lemmas.Bool.{and_parts, eq-eqb, ne_eqb}
-use Rattle.std.proofs.lemmas.Option.{same_Some}
+use Rattle.std.proofs.Common.{◌≡◌, ◌⊎◌, refl, sym, ap, subst, ◌∙◌, inl, inr, ℕ, ◌<◌, ◌==◌, true, false, not, ◌∷◌, get_or, Option, Some, None}
 use native.Mathlib.Omega.{arith}
 use Rattle.b1_model.specs.declared.naming.Key.{Key}
 use Rattle.b1_model.specs.declared.naming.NodeRef.{NodeRef}
 use Rattle.b1_model.specs.declared.naming.Opening.{Opening}
-use Rattle.b1_model.specs.declared.answers.Answer.TheVariants as ans
 use Rattle.b1_model.specs.declared.entries.Entry.{Entry}
 use Rattle.b1_model.specs.declared.entries.Entry.TheVariants.{Message, OwnNotice, ForeignNotice, ReleaseNotice}
 use Rattle.b1_model.specs.declared.records.Record.{Record}
-use Rattle.b1_model.specs.Names.{Node, calls_of, epoch_at}
-use Rattle.b1_model.specs.Ledger.{got_key, is_below, is_before, line_number, table, message, doomed_at, to_at, is_accepted, is_node_of, is_entry, is_late}
-use Rattle.b1_model.specs.Legal.{is_above, last_key, is_open_to, is_message_in, is_message, is_notice_of, is_notice, is_candidate, IsLeast, IsNextReceipt}
-use Rattle.b1_model.specs.MachineParts.{PeerPart, NodePart, DriverPart, HandleRecord, State, is_staged, no_node, node_at, record_or_none, key_before}
-use Rattle.b1_model.specs.MachineReceive.{is_for_nobody, discarded, cleared, taken_entry}
+use Rattle.b1_model.specs.Ledger.{is_below}
+use Rattle.b1_model.specs.Legal.{is_above, last_key, is_candidate, IsLeast}
+use Rattle.b1_model.specs.MachineParts.{PeerPart, DriverPart, State, is_staged, no_node, record_or_none}
+use Rattle.b1_model.specs.MachineReceive.{is_for_nobody, discarded, cleared}
 use Rattle.b1_model.specs.MachineStep.{record_of_state}
 use Rattle.b1_step.specs.Ordered.{Ascending, Rising}
 use Rattle.b1_step.specs.Rights.{Has}
@@ -23,23 +18,19 @@ use Rattle.b1_step.proofs.Orders.{behind_has}
 use Rattle.b1_inv.specs.Words.{IsPeer, IsDriver}
 use Rattle.b1_inv.specs.Sound.{IsSound}
 use Rattle.b1_ledger.specs.Growth.{calls_len}
-use Rattle.b1_ledger.proofs.KeyOrder.{below_is, Below, Before, before_is, is_of_below, not_of_below}
-use Rattle.b1_ledger.proofs.Made.{to_made, doomed_made}
+use Rattle.b1_ledger.proofs.KeyOrder.{below_is, Below, is_of_below, not_of_below}
 use Rattle.b1_ledger.proofs.NextAfter.{below_is_less}
-use Rattle.b1_ledger.proofs.Sequences.{and_of, or_left, or_right}
-use Rattle.b1_inv_record.specs.Destructions.{own_ref, doomed_key, awaits_commit}
-use Rattle.b1_inv_record.specs.Epochs.{first_now, first_done, ref_of}
+use Rattle.b1_ledger.proofs.Sequences.{and_of}
 use Rattle.b1_inv_record.specs.Right.{IsRight}
 use Rattle.b1_inv_peer.proofs.Clearing.{without_front}
 use Rattle.b1_model.specs.MachineTables.{foreign, made_dead}
 use Rattle.b1_inv_refs.proofs.Views.{held_same, held_unexpected}
 use Rattle.b1_inv_taken.proofs.Clears.{Queue, is_removed, Settled, cleared_by}
-use Rattle.b1_inv_legal.specs.Fronts.{CanTake, taken_answer, FrontIsNext}
 use Rattle.b1_inv_next.specs.Queued.{Queued}
-use Rattle.b1_inv_next.proofs.Facts.{last_received, late_notice}
-use Rattle.b1_inv_next.proofs.Idle.{not_itself, first_same, is_present, node_there}
+use Rattle.b1_inv_next.proofs.Facts.{last_received}
+use Rattle.b1_inv_next.proofs.Idle.{not_itself}
 use Rattle.b1_inv_next.proofs.Notices.{candidate_queued}
-use Rattle.b1_inv_next.proofs.Nobody.{one_node, noticed_record, noticed_node, message_node, nobody_apart, all_has}
+use Rattle.b1_inv_next.proofs.Nobody.{nobody_apart, all_has}
 
 -- no key is both below and above another
 not_both : (a b : Key) → is_below a b ≡ true → is_below b a ≡ false

@@ -1,17 +1,15 @@
 -- A peer whose driver has no command open: the epoch of its part is that of its calls, and what it received is behind its last key.
-use Rattle.std.proofs.Common.{◌≡◌, ◌⊎◌, refl, sym, ap, subst, ◌∙◌, inl, inr, ℕ, suc, ◌+◌, ◌≤◌, ◌<◌, ◌==◌, Bool, true, false, cond, List, [], ◌∷◌, ◌++◌, length, map, take, Option, Some, None, append-nil}
+use Rattle.std.proofs.Common.{◌≡◌, sym, ap, ◌∙◌, inl, inr, ℕ, suc, ◌≤◌, ◌==◌, true, false, cond, length, Some, None}
 use Rattle.std.specs.Prelude.{slice_get}
 use Rattle.std.proofs.lemmas.Bool.{eq-eqb, eqb-true}
-use Rattle.std.proofs.lemmas.List.{length-append, length-map}
-use Rattle.std.proofs.lemmas.Option.{same_Some, slice_get_within}
+use Rattle.std.proofs.lemmas.List.{length-map}
+use Rattle.std.proofs.lemmas.Option.{slice_get_within}
 use native.Mathlib.Omega.{arith}
 use Rattle.b1_model.specs.declared.naming.Key.{Key}
-use Rattle.b1_model.specs.declared.naming.NodeRef.{NodeRef}
 use Rattle.b1_model.specs.declared.naming.Opening.{Opening}
-use Rattle.b1_model.specs.declared.records.Call.{Call}
 use Rattle.b1_model.specs.declared.records.Record.{Record}
-use Rattle.b1_model.specs.Names.{Node, Name, calls_of, wired, made_in, epoch_in, epoch_at, add_new}
-use Rattle.b1_model.specs.Ledger.{got_key, is_below}
+use Rattle.b1_model.specs.Names.{Node, calls_of, epoch_in, epoch_at, add_new}
+use Rattle.b1_model.specs.Ledger.{is_below}
 use Rattle.b1_model.specs.Legal.{last_key, is_above}
 use Rattle.b1_model.specs.MachineParts.{PeerPart, NodePart, DriverPart, State}
 use Rattle.b1_model.specs.MachineTook.{driver_calls}
@@ -22,12 +20,11 @@ use Rattle.b1_ledger.specs.Growth.{calls_len, all_names, WasMade}
 use Rattle.b1_ledger.proofs.Ascends.{at_most_last, reaches_above}
 use Rattle.b1_ledger.proofs.KeyOrder.{below_is, Below}
 use Rattle.b1_ledger.proofs.Sequences.{take-end}
-use Rattle.b1_inv_record.specs.Epochs.{in_gap, first_now, first_done, made_before, flushed_calls, epoch_now, WasReceivedIn}
+use Rattle.b1_inv_record.specs.Epochs.{in_gap, first_now, first_done, made_before, flushed_calls, WasReceivedIn}
 use Rattle.b1_inv_record.specs.Names.{open_numbers}
 use Rattle.b1_inv_record.specs.Right.{IsRight}
 use Rattle.b1_inv_notices.proofs.Turns.{get_there}
 use Rattle.b1_inv_destroys.proofs.Recorded.{recorded, calls_by}
-use Rattle.b1_inv_names.proofs.Recorded.{recorded_calls}
 use Rattle.b1_inv_taken.proofs.Old.{names_grow}
 use Rattle.b1_inv_next.proofs.Epochs.{present_epoch, epoch_present}
 

@@ -1,12 +1,11 @@
 -- Every message that a peer may receive next is queued, or a staged entry below it is.
-use Rattle.std.proofs.Common.{◌≡◌, ◌⊎◌, refl, sym, ap, subst, ◌∙◌, inl, inr, ℕ, suc, ◌+◌, ◌≤◌, ◌<◌, ◌==◌, Bool, true, false, cond, ◌&&◌, not, List, [], ◌∷◌, length, Option, Some, None}
+use Rattle.std.proofs.Common.{◌≡◌, refl, sym, ap, subst, ◌∙◌, inl, inr, ℕ, ◌≤◌, ◌<◌, ◌==◌, true, false, not, Option, Some, None}
 use Rattle.std.specs.Prelude.{slice_get}
 use Rattle.std.proofs.lemmas.Bool.{and_parts, eqb-true, not-true}
-use Rattle.std.proofs.lemmas.Option.{same_Some, slice_get_within}
+use Rattle.std.proofs.lemmas.Option.{slice_get_within}
 use native.Mathlib.Omega.{arith}
 use Rattle.b1_model.specs.declared.answers.Reason.{Reason}
 use Rattle.b1_model.specs.declared.naming.Key.{Key}
-use Rattle.b1_model.specs.declared.naming.NodeRef.{NodeRef}
 use Rattle.b1_model.specs.declared.naming.Opening.{Opening}
 use Rattle.b1_model.specs.declared.entries.Entry.{Entry}
 use Rattle.b1_model.specs.declared.entries.Entry.TheVariants as entry
@@ -15,12 +14,10 @@ use Rattle.b1_model.specs.declared.events.Phase.{Phase}
 use Rattle.b1_model.specs.declared.events.Phase.TheVariants.{Syncing, Committing}
 use Rattle.b1_model.specs.declared.records.Call.{Call}
 use Rattle.b1_model.specs.declared.records.Record.{Record}
-use Rattle.b1_model.specs.Names.{Node, calls_of, epoch_in, epoch_at}
+use Rattle.b1_model.specs.Names.{Node, calls_of, epoch_at}
 use Rattle.b1_model.specs.Ledger.{Message, message, to_at, is_accepted, is_node_of, is_entry, is_late}
 use Rattle.b1_model.specs.Legal.{is_above, last_key, is_open_to, is_message_in, is_message}
 use Rattle.b1_model.specs.MachineParts.{PeerPart, DriverPart, State, is_staged, is_data}
-use Rattle.b1_model.specs.MachineTables.{is_stage}
-use Rattle.b1_model.specs.MachineEvents.{begun_of}
 use Rattle.b1_model.specs.MachineStep.{record_of_state}
 use Rattle.b1_step.specs.Rights.{Has}
 use Rattle.b1_inv.specs.Words.{IsPeer, IsDriver, stamp_of_phase, waits_at}
@@ -28,15 +25,15 @@ use Rattle.b1_inv.specs.Sound.{IsSound}
 use Rattle.b1_ledger.specs.Growth.{calls_len, sent_call}
 use Rattle.b1_ledger.proofs.Made.{to_made}
 use Rattle.b1_inv_record.specs.Clocks.{is_own_notice}
-use Rattle.b1_inv_record.specs.Entries.{IsQueued, IsWaiting, WasCutOff, IsSomewhere}
+use Rattle.b1_inv_record.specs.Entries.{IsSomewhere}
 use Rattle.b1_inv_record.specs.Epochs.{first_now, ref_of, is_unstaging, epoch_now, WasReceived, WasReceivedIn}
 use Rattle.b1_inv_record.specs.Right.{IsRight}
-use Rattle.b1_inv_notices.proofs.Turns.{doing_in, get_there}
+use Rattle.b1_inv_notices.proofs.Turns.{get_there}
 use Rattle.b1_inv_notices.proofs.Brings.{stage_is}
 use Rattle.b1_inv_cover.proofs.Came.{stage_staged}
 use Rattle.b1_inv_destroys.proofs.Recorded.{recorded, calls_by}
 use Rattle.b1_inv_next.specs.Queued.{Queued}
-use Rattle.b1_inv_next.proofs.Facts.{SentBy, sent_by}
+use Rattle.b1_inv_next.proofs.Facts.{sent_by}
 use Rattle.b1_inv_next.proofs.OpenSends.{is_stamped, goes_to}
 use Rattle.b1_inv_next.proofs.Idle.{as_many, epoch_is, epoch_end, present_is, received_behind}
 

@@ -1,9 +1,8 @@
 -- What RECV removes for nobody is nothing that its peer may receive.
-use Rattle.std.proofs.Common.{◌≡◌, ◌≢◌, ◌⊎◌, refl, sym, ap, subst, ◌∙◌, inl, inr, ℕ, suc, ◌+◌, ◌≤◌, ◌<◌, ◌==◌, Bool, true, false, cond, ◌&&◌, not, List, [], ◌∷◌, length, get_or, map, Option, Some, None, option_map}
+use Rattle.std.proofs.Common.{◌≡◌, refl, sym, ap, subst, ◌∙◌, inl, inr, ℕ, suc, ◌==◌, Bool, true, false, cond, not, List, [], ◌∷◌, Option, Some, None, option_map}
 use Rattle.std.specs.Prelude.{slice_get, is_some}
 use Rattle.std.proofs.lemmas.Bool.{and_parts, eqb-true, ne_eqb, not-true}
 use Rattle.std.proofs.lemmas.Option.{same_Some, slice_get_within, get_or_from_slice_get}
-use Rattle.std.proofs.lemmas.List.Elements.{All-get_or}
 use Rattle.std.specs.List.{All}
 use native.Mathlib.Omega.{arith}
 use Rattle.b1_model.specs.declared.naming.Key.{Key}
@@ -14,11 +13,11 @@ use Rattle.b1_model.specs.declared.parts.NodeState.TheVariants.{Live, Dying, Des
 use Rattle.b1_model.specs.declared.entries.Entry.{Entry}
 use Rattle.b1_model.specs.declared.entries.Entry.TheVariants.{Message, OwnNotice, ForeignNotice, ReleaseNotice}
 use Rattle.b1_model.specs.declared.records.Record.{Record}
-use Rattle.b1_model.specs.Names.{Node, calls_of, epoch_at}
+use Rattle.b1_model.specs.Names.{Node, epoch_at}
 use Rattle.b1_model.specs.Ledger as ledger
-use Rattle.b1_model.specs.Ledger.{is_below, is_before, line_number, table, message, doomed_at, to_at, is_accepted, is_entry, is_late}
+use Rattle.b1_model.specs.Ledger.{is_below, line_number, table, message, doomed_at, to_at, is_accepted, is_entry, is_late}
 use Rattle.b1_model.specs.Legal.{is_above, last_key, is_open_to, is_message_in, is_message, is_notice_of, is_notice, is_candidate}
-use Rattle.b1_model.specs.MachineParts.{PeerPart, NodePart, DriverPart, HandleRecord, State, is_staged, is_destroyed, no_node, no_record, node_at, record_of, record_or_none, key_before, same_ref}
+use Rattle.b1_model.specs.MachineParts.{PeerPart, NodePart, DriverPart, HandleRecord, State, is_staged, is_destroyed, no_node, node_at, record_of, record_or_none, key_before, same_ref}
 use Rattle.b1_model.specs.MachineReceive.{is_for_nobody}
 use Rattle.b1_model.specs.MachineStep.{record_of_state}
 use Rattle.b1_step.specs.Rights.{Has}
@@ -30,8 +29,7 @@ use Rattle.b1_ledger.proofs.KeyOrder.{below_is, Below, Before, is_of_before}
 use Rattle.b1_ledger.proofs.Made.{to_made, doomed_made}
 use Rattle.b1_ledger.proofs.NextAfter.{below_is_less}
 use Rattle.b1_ledger.proofs.Sequences.{or_true}
-use Rattle.b1_inv_record.specs.Destructions.{own_ref, doomed_key}
-use Rattle.b1_inv_record.specs.Entries.{IsCallOf}
+use Rattle.b1_inv_record.specs.Destructions.{own_ref}
 use Rattle.b1_inv_record.specs.Epochs.{ref_of}
 use Rattle.b1_inv_record.specs.Right.{IsRight}
 use Rattle.b1_inv_refs.proofs.GivenUp.{record_found}
@@ -40,7 +38,7 @@ use Rattle.b1_inv_entries.proofs.NewCalls.{records_length}
 use Rattle.b1_inv_notices.proofs.Turns.{get_there}
 use Rattle.b1_ledger.proofs.Plain.{notice_source}
 use Rattle.b1_inv_peer.proofs.RecordFields.{or_none}
-use Rattle.b1_inv_next.proofs.Facts.{sent_by, notice_late, one_kind}
+use Rattle.b1_inv_next.proofs.Facts.{notice_late, one_kind}
 use Rattle.b1_inv_next.proofs.Idle.{as_many}
 use Rattle.b1_inv_next.proofs.Messages.{caller}
 use Rattle.b1_inv_next.proofs.Notices.{line_held}

@@ -1,25 +1,22 @@
 -- Every destroy notice that a peer may receive next is queued, or a staged entry below it is.
-use Rattle.std.proofs.Common.{◌≡◌, ◌≢◌, ◌⊎◌, refl, sym, ap, subst, ◌∙◌, inl, inr, ℕ, suc, ◌+◌, ◌≤◌, ◌<◌, ◌==◌, Bool, true, false, cond, ◌&&◌, not, List, [], ◌∷◌, length, get_or, Option, Some, None}
+use Rattle.std.proofs.Common.{◌≡◌, ◌≢◌, refl, sym, ap, subst, ◌∙◌, inl, inr, ℕ, ◌≤◌, ◌<◌, ◌==◌, Bool, true, false, cond, [], Option, Some, None}
 use Rattle.std.specs.Prelude.{slice_get, is_some}
 use Rattle.std.proofs.lemmas.Bool.{and_parts, eq-eqb, eqb-true}
 use Rattle.std.proofs.lemmas.Option.{same_Some, slice_get_within, get_or_from_slice_get}
 use native.Mathlib.Omega.{arith}
 use Rattle.b1_model.specs.declared.naming.Key.{Key}
-use Rattle.b1_model.specs.declared.naming.NodeRef.{NodeRef}
 use Rattle.b1_model.specs.declared.naming.Opening.{Opening}
-use Rattle.b1_model.specs.declared.parts.NodeState.{NodeState}
-use Rattle.b1_model.specs.declared.parts.NodeState.TheVariants.{Live, Dying, Destroyed}
-use Rattle.b1_model.specs.declared.entries.Entry.{Entry}
+use Rattle.b1_model.specs.declared.parts.NodeState.TheVariants.{Dying, Destroyed}
 use Rattle.b1_model.specs.declared.entries.Entry.TheVariants as entry
 use Rattle.b1_model.specs.declared.events.Doing.{Doing}
 use Rattle.b1_model.specs.declared.events.Phase.{Phase}
 use Rattle.b1_model.specs.declared.events.Phase.TheVariants.{Visiting, Dooming, SyncingNotices, CommittingOwn, CommittingNotices}
 use Rattle.b1_model.specs.declared.records.Record.{Record}
-use Rattle.b1_model.specs.Names.{Node, calls_of, epoch_at}
+use Rattle.b1_model.specs.Names.{Node, epoch_at}
 use Rattle.b1_model.specs.Ledger.{Line, line_number, is_the_node, table, doomed_at}
 use Rattle.b1_model.specs.Legal.{is_above, last_key, is_notice_of, is_notice, is_message, is_candidate}
-use Rattle.b1_model.specs.MachineParts.{PeerPart, NodePart, DriverPart, HandleRecord, State, is_staged, is_dying, is_live, no_node, node_at, same_ref}
-use Rattle.b1_model.specs.MachineEvents.{doomed_of, collected_of}
+use Rattle.b1_model.specs.MachineParts.{PeerPart, DriverPart, HandleRecord, State, is_staged, is_dying, is_live, no_node, node_at, same_ref}
+use Rattle.b1_model.specs.MachineEvents.{doomed_of}
 use Rattle.b1_model.specs.MachineStep.{record_of_state}
 use Rattle.b1_step.specs.Rights.{Has}
 use Rattle.b1_step.proofs.Lists.{has_at}
@@ -30,11 +27,9 @@ use Rattle.b1_inv.specs.Sound.{IsSound}
 use Rattle.b1_ledger.specs.Growth.{calls_len}
 use Rattle.b1_ledger.proofs.Made.{doomed_made}
 use Rattle.b1_ledger.proofs.Sequences.{and_of, or_true}
-use Rattle.b1_inv_record.specs.Clocks.{is_own_notice}
 use Rattle.b1_inv_record.specs.Destructions.{own_ref, doomed_key, awaits_commit}
-use Rattle.b1_inv_record.specs.Epochs.{first_now, first_done, ref_of, is_ref, is_unstaging, WasReceivedIn}
-use Rattle.b1_inv_record.specs.Holders.{IsCovered, IsDue}
-use Rattle.b1_inv_record.specs.Names.{IsLineOf}
+use Rattle.b1_inv_record.specs.Epochs.{first_done, ref_of, is_ref, is_unstaging}
+use Rattle.b1_inv_record.specs.Holders.{IsCovered}
 use Rattle.b1_inv_record.specs.Right.{IsRight}
 use Rattle.b1_inv_notices.proofs.Turns.{get_there}
 use Rattle.b1_inv_legal.proofs.Lines.{line_number_of}

@@ -1,5 +1,5 @@
 -- An open SEND with its stamp stands in the record as the last call of its peer: its message goes where its begin found.
-use Rattle.std.proofs.Common.{◌≡◌, refl, sym, ap, subst, ◌∙◌, inl, inr, ℕ, suc, ◌+◌, ◌≤◌, ◌<◌, Bool, true, false, cond, ◌&&◌, List, [], ◌∷◌, ◌++◌, length, map, take, Option, Some, None}
+use Rattle.std.proofs.Common.{◌≡◌, refl, sym, ap, ◌∙◌, ℕ, suc, ◌+◌, Bool, true, false, cond, ◌&&◌, List, [], ◌∷◌, ◌++◌, length, map, Some, None}
 use Rattle.std.specs.Prelude.{slice_get}
 use Rattle.std.specs.Option.{option_flatten}
 use Rattle.std.proofs.lemmas.Option.{same_Some}
@@ -7,39 +7,35 @@ use native.Mathlib.Omega.{arith}
 use Rattle.b1_model.specs.declared.commands.Command.{Command}
 use Rattle.b1_model.specs.declared.commands.Command.TheVariants as cmd
 use Rattle.b1_model.specs.declared.commands.SendCmd.{SendCmd}
-use Rattle.b1_model.specs.declared.naming.NodeRef.{NodeRef}
 use Rattle.b1_model.specs.declared.naming.Opening.{Opening}
-use Rattle.b1_model.specs.declared.answers.Answer.{Answer}
 use Rattle.b1_model.specs.declared.answers.Answer.TheVariants as answer
 use Rattle.b1_model.specs.declared.answers.Sent.{Sent}
-use Rattle.b1_model.specs.declared.events.Doing.{Doing}
 use Rattle.b1_model.specs.declared.events.Phase.{Phase}
 use Rattle.b1_model.specs.declared.events.Phase.TheVariants.{Syncing, Committing}
-use Rattle.b1_model.specs.declared.events.Sending.{Sending}
 use Rattle.b1_model.specs.declared.records.Call.{Call}
 use Rattle.b1_model.specs.declared.records.Record.{Record}
-use Rattle.b1_model.specs.Names.{Node, Name, calls_of, wired, add_new, made_in, made}
+use Rattle.b1_model.specs.Names.{Node, calls_of, wired, add_new, made_in, made}
 use Rattle.b1_model.specs.Ledger.{Message, message, to_at, node_of, named, table, slots}
 use Rattle.b1_model.specs.MachineParts.{PeerPart, DriverPart, State}
 use Rattle.b1_model.specs.MachineDriver.{send_of}
 use Rattle.b1_model.specs.MachineTables.{node_named}
-use Rattle.b1_model.specs.MachineTook.{as_call, is_await, call_of, sent_answer, open_by}
+use Rattle.b1_model.specs.MachineTook.{as_call, is_await, call_of, open_by}
 use Rattle.b1_model.specs.MachineEvents.{begun_of}
 use Rattle.b1_model.specs.MachineStep.{record_of_state}
-use Rattle.b1_inv.specs.Words.{IsPeer, IsDriver, fixed_stamp, stamp_of_phase}
+use Rattle.b1_inv.specs.Words.{IsPeer, IsDriver, stamp_of_phase}
 use Rattle.b1_inv.specs.Sound.{IsSound}
 use Rattle.b1_ledger.specs.Growth.{calls_len, sent_call, is_quiet, all_names}
 use Rattle.b1_ledger.proofs.Bound.{one_call}
 use Rattle.b1_ledger.proofs.Sequences.{slice_get-end, take-past}
 use Rattle.b1_ledger.proofs.Steps.{table_next, quiet_table}
 use Rattle.b1_inv_record.specs.Epochs.{in_gap, awaits_flush, ref_of}
-use Rattle.b1_inv_record.specs.Names.{carried_open, open_numbers}
+use Rattle.b1_inv_record.specs.Names.{carried_open}
 use Rattle.b1_inv_record.specs.Right.{IsRight}
 use Rattle.b1_inv_notices.proofs.Turns.{doing_in}
 use Rattle.b1_inv_names.proofs.Recorded.{recorded_calls}
 use Rattle.b1_inv_legal.proofs.Named.{named_is}
 use Rattle.b1_inv_legal.proofs.Sends.{number_of_node, same_image}
-use Rattle.b1_inv_next.proofs.Facts.{SentBy, sent_by}
+use Rattle.b1_inv_next.proofs.Facts.{sent_by}
 
 -- a phase of a SEND with its stamp
 abbrev pub is_stamped : Phase → Bool

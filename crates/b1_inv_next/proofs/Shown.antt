@@ -1,6 +1,6 @@
 -- A RECV that can't take its front shows the right one; and a drained state's record is whole.
-use Rattle.std.proofs.Common.{◌≡◌, ◌≢◌, ◌⊎◌, refl, sym, ap, subst, ◌∙◌, inl, inr, ℕ, zero, suc, ◌+◌, ◌≤◌, ◌<◌, ◌==◌, Bool, true, false, cond, ◌&&◌, not, List, [], ◌∷◌, length, Option, Some, None, Ok, Err, Result}
-use Rattle.std.specs.Prelude.{slice_get, is_none, is_some}
+use Rattle.std.proofs.Common.{◌≡◌, ◌≢◌, ◌⊎◌, refl, sym, ap, subst, ◌∙◌, inl, inr, ℕ, zero, suc, ◌==◌, Bool, true, false, ◌&&◌, not, List, [], ◌∷◌, length, Option, Some, None, Ok, Err, Result}
+use Rattle.std.specs.Prelude.{slice_get, is_none}
 use Rattle.std.specs.List.{list_any, list_all}
 use Rattle.std.proofs.lemmas.Bool.{and_parts, eq-eqb}
 use Rattle.std.proofs.lemmas.Option.{same_Some, slice_get_within}
@@ -8,7 +8,6 @@ use native.Mathlib.Omega.{arith}
 use Rattle.b1_model.specs.declared.commands.Command.{Command}
 use Rattle.b1_model.specs.declared.commands.Command.TheVariants as cmd
 use Rattle.b1_model.specs.declared.naming.Key.{Key}
-use Rattle.b1_model.specs.declared.naming.NodeRef.{NodeRef}
 use Rattle.b1_model.specs.declared.naming.Opening.{Opening}
 use Rattle.b1_model.specs.declared.answers.Answer.{Answer}
 use Rattle.b1_model.specs.declared.answers.Answer.TheVariants as answer
@@ -20,19 +19,14 @@ use Rattle.b1_model.specs.declared.entries.Entry.{Entry}
 use Rattle.b1_model.specs.declared.entries.Entry.TheVariants.{Message, OwnNotice, ForeignNotice, ReleaseNotice}
 use Rattle.b1_model.specs.declared.events.Action.TheVariants as act
 use Rattle.b1_model.specs.declared.events.Doing.{Doing}
-use Rattle.b1_model.specs.declared.events.Outcome.TheVariants as out
-use Rattle.b1_model.specs.declared.events.Phase.{Phase}
 use Rattle.b1_model.specs.declared.events.Phase.TheVariants.{Starting}
-use Rattle.b1_model.specs.declared.records.Record.{Record}
-use Rattle.b1_model.specs.Names.{calls_of}
 use Rattle.b1_model.specs.Ledger.{stamp_of, is_below, is_before}
-use Rattle.b1_model.specs.Legal.{is_candidate, HasNoNext, Whole}
+use Rattle.b1_model.specs.Legal.{is_candidate, Whole}
 use Rattle.b1_model.specs.MachineParts.{PeerPart, DriverPart, State, is_staged, record_of}
 use Rattle.b1_model.specs.MachineReceive.{cleared, taken_entry, front_by, front_taken, received, received_part}
-use Rattle.b1_model.specs.MachineDriver.{refused_at, peer_of}
-use Rattle.b1_model.specs.MachineTook.{as_call}
+use Rattle.b1_model.specs.MachineDriver.{refused_at}
 use Rattle.b1_model.specs.MachineEvents.{happens}
-use Rattle.b1_model.specs.MachineOrder.{has_staged, is_any_release_notice, is_staged_by, FrontShown, FrontRight, is_idle, no_command_open, Drained}
+use Rattle.b1_model.specs.MachineOrder.{has_staged, is_any_release_notice, is_staged_by, FrontShown, FrontRight, is_idle, Drained}
 use Rattle.b1_model.specs.MachineStep.{Step, record_of_state}
 use Rattle.b1_step.specs.Ordered.{Ascending}
 use Rattle.b1_step.specs.Rights.{Has}
@@ -41,7 +35,7 @@ use Rattle.b1_inv.specs.Words.{IsPeer, IsDriver, IsMade, is_uncommitted}
 use Rattle.b1_inv.specs.Sends.{SendShape}
 use Rattle.b1_inv.specs.Sound.{IsSound}
 use Rattle.b1_ledger.specs.Growth.{calls_len, is_quiet}
-use Rattle.b1_ledger.proofs.KeyOrder.{below_is, Below, Before, is_of_below, before_is}
+use Rattle.b1_ledger.proofs.KeyOrder.{below_is, Below, Before, before_is}
 use Rattle.b1_ledger.proofs.NextAfter.{below_is_less, may_plain}
 use Rattle.b1_ledger.proofs.Sequences.{and_of, or_left}
 use Rattle.b1_inv_record.specs.Right.{IsRight}

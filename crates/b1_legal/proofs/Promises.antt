@@ -1,5 +1,4 @@
 -- What is promised of every step from a reached state, and of every reached state.
-use Rattle.std.proofs.Common.{Option}
 use Rattle.b1_model.specs.declared.naming.Opening.{Opening}
 use Rattle.b1_model.specs.Opening.{IsOpening}
 use Rattle.b1_model.specs.MachineParts.{State}

@@ -1,5 +1,5 @@
 -- Every reached state is right: of the opening, and kept by each step; so its record is legal.
-use Rattle.std.proofs.Common.{◌≡◌, subst, ℕ, List, [], ◌∷◌, Option}
+use Rattle.std.proofs.Common.{subst, ℕ, List, [], ◌∷◌, Option}
 use Rattle.b1_model.specs.declared.commands.Command.{Command}
 use Rattle.b1_model.specs.declared.naming.Opening.{Opening}
 use Rattle.b1_model.specs.Opening.{IsOpening}
@@ -7,7 +7,7 @@ use Rattle.b1_model.specs.MachineParts.{State}
 use Rattle.b1_model.specs.MachineStep.{Step, Label, Leads, Reached, opening_state}
 use Rattle.b1_inv.specs.Sound.{IsSound}
 use Rattle.b1_inv_record.specs.Right.{IsRight}
-use Rattle.b1_law.proofs.Reached.{opening_sound, step_sound, reached_sound}
+use Rattle.b1_law.proofs.Reached.{opening_sound, step_sound}
 use Rattle.b1_inv_parts.proofs.Kept.{parts_begin, parts_kept}
 use Rattle.b1_inv_cover.proofs.Covers.{covers_begin, covers_kept}
 use Rattle.b1_inv_seen.proofs.Groups.{names_begin, names_kept, holders_begin, holders_kept}

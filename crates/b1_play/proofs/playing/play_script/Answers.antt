@@ -3,7 +3,6 @@ use Rattle.std.specs.Prelude.{IfOk}
 use Rattle.b1_play.specs.Plays.{PlaysAsPromised, PlaysScript}
 use Rattle.b1_play.specs.declared.playing.Played.{Played}
 use Rattle.b1_play.specs.declared.playing.Played.TheVariants.{Done, Stalled}
-use Rattle.b1_script.specs.declared.script.Script.{Script}
 use Rattle.b1_play.proofs.playing.play_script.Goals as goal
 
 -- what holds of each thing that was played holds of the result

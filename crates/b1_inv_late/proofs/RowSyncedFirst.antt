@@ -1,4 +1,4 @@
--- A worked row of receive before send: a peer receives a message before another SEND to a party of it begins, and that gets a later stamp.
+-- A worked row of receive before send: after a first commit all recipients are synced, so a peer that received nothing gets a later stamp.
 use Rattle.std.specs.Prelude.{◌≡◌, refl, ℕ, true, false, List, [], ◌∷◌, Some, Ok, option_map, slice_get}
 use Rattle.b1_model.specs.declared.commands.Command.TheVariants as cmd
 use Rattle.b1_model.specs.declared.naming.NodeRef.{NodeRef}
