@@ -5,7 +5,8 @@ ghost use Rattle.b1_model.specs.Opening.{IsOpening};
 ghost use Rattle.b1_model.specs.MachineParts.{State};
 ghost use Rattle.b1_model.specs.MachineStep.{Step, opening_state};
 ghost use Rattle.b1_inv.specs.Sound.{IsSound};
-ghost use Rattle.b1_inv_ends.specs.Holders.{HoldersServed};
+ghost use Rattle.b1_inv_ends.specs.Notices.{OneNotice};
+ghost use Rattle.b1_inv_ends.specs.Holders.{HoldersServed, LateByAttach};
 ghost use Rattle.b1_inv_record.specs.Right.{DestructionsRight, IsRight};
 
 /// A step keeps all that is said of destructions and their notices: which nodes are destroyed, what open destructions
@@ -19,4 +20,16 @@ pub fn destructions_stay_right()
 /// has taken it in the epoch of its part.
 pub fn holders_are_told()
     ensures { (o : Opening) (s : State) → IsSound o s → IsRight o s → HoldersServed o s }
+{}
+
+/// A peer comes into a late set only by an attach for it to a dying node; a destruction's begin and its stamp leave the
+/// set empty; and behind a stamp's event just those are visited that were in it.
+pub fn late_holders_are_visited()
+    ensures { (o : Opening) (s : State) (p : ℕ) (c : Option Command) (t : State) → IsSound o s → IsRight o s → (step : Step o s p c t) → LateByAttach step }
+{}
+
+/// A destroy notice comes to a queue that has none of its node only while the node isn't destroyed; it leaves only behind
+/// the node's destruction, or by a flush of its queue; and a destroyed node stays destroyed.
+pub fn each_notice_comes_once()
+    ensures { (o : Opening) (s : State) (p : ℕ) (c : Option Command) (t : State) → IsSound o s → IsRight o s → (step : Step o s p c t) → OneNotice step }
 {}

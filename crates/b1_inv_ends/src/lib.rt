@@ -3,4 +3,6 @@
 
 mod laws;
 
-pub use laws::{destructions_stay_right, holders_are_told};
+pub use laws::{
+    destructions_stay_right, each_notice_comes_once, holders_are_told, late_holders_are_visited,
+};

@@ -180,7 +180,8 @@ module _ {o : Opening} {s : State} {p : ℕ} {c : Option Command} {t : State} (s
 
   -- ---- own notices that were taken
 
-  destroyed_key : (q serial : ℕ) (x : PeerPart) (n : NodePart) (state : NodeState) → IsPeer s q x → slice_get x.nodes serial ≡ Some n → n.state ≡ state → is_destroyed state ≡ true → (key : Key) × (doomed_key o s (own_ref q serial) ≡ Some key)
+  -- the destruction of a destroyed node
+  pub destroyed_key : (q serial : ℕ) (x : PeerPart) (n : NodePart) (state : NodeState) → IsPeer s q x → slice_get x.nodes serial ≡ Some n → n.state ≡ state → is_destroyed state ≡ true → (key : Key) × (doomed_key o s (own_ref q serial) ≡ Some key)
   destroyed_key q serial x n (Destroyed stamp) is at same dead = let k = right.destructions.dying.destroyed q serial stamp x n is at same in (k.0, k.1)
   destroyed_key q serial x n Live is at same dead = absurd (cc dead)
   destroyed_key q serial x n Dying is at same dead = absurd (cc dead)

@@ -26,3 +26,6 @@ pub mod TakenStays
 pub mod Taking
 pub mod Waiting
 pub mod NewSend
+pub mod Somewhere
+pub mod SomewhereKept
+pub mod Together

@@ -61,7 +61,7 @@ begun_shape s command phase at shape is = absurd (cc is)
 
 -- ---- staged messages
 
-stage_lasts : (f : Key × Entry) → is_data f.1 ≡ true → is_any_release_notice f ≡ false
+pub stage_lasts : (f : Key × Entry) → is_data f.1 ≡ true → is_any_release_notice f ≡ false
 stage_lasts (k, Message origin user index serial offset len nodes slots handles payload) is = refl
 stage_lasts (k, OwnNotice serial index) is = absurd (cc is)
 stage_lasts (k, ForeignNotice node index) is = absurd (cc is)
@@ -183,7 +183,7 @@ module _ {o : Opening} {s : State} {p : ℕ} {c : Option Command} {t : State} (s
       by false is = queue_keeps f (stage_lasts f data_is) o step.local.memory (going step) (going_doing step) step.peer has (going_action step) apart is calm
 
   -- at a flush no node of its peer is of the present epoch
-  flush_apart : (stamp : Option ℕ) (serial : ℕ) → (parts step).phase ≡ Flushing stamp → step.at ≡ p → serial < length step.peer.nodes → first_now o s step.at ≤ serial → ⊥
+  pub flush_apart : (stamp : Option ℕ) (serial : ℕ) → (parts step).phase ≡ Flushing stamp → step.at ≡ p → serial < length step.peer.nodes → first_now o s step.at ≤ serial → ⊥
   flush_apart stamp serial is here made low = elim (parts step).was [
     | inl open_is ↦
         let all = flush_first right.names.made p step.driver step.peer step.is_driver (subst (λ q. IsPeer s q step.peer) here step.is_peer) (parts step).command stamp (open_is ∙ ap (λ z. Some (doing_in (parts step).command z)) is) in
@@ -195,7 +195,7 @@ module _ {o : Opening} {s : State} {p : ℕ} {c : Option Command} {t : State} (s
       is_flushing_phase (Flushing at) = true
       is_flushing_phase phase = false
 
-  flush_here : (action : Action) → is_flush_action action ≡ true → peer_of step.driver.me action ≡ step.at → step.at ≡ p
+  pub flush_here : (action : Action) → is_flush_action action ≡ true → peer_of step.driver.me action ≡ step.at → step.at ≡ p
   flush_here act.Flush is at = sym at ∙ me_is
   flush_here action is at = absurd (cc is)
 

@@ -69,7 +69,7 @@ module _ (o : Opening) (memory : Bool) (d : DriverPart) (command : Command) (x :
   event_on phase (one ∷ rest) waits apart = drop_waits d.me command phase at waits
 
 -- a commit of a staged message puts it in the queue under the final key
-commit_there : (found : Option (Key × Entry)) (x : PeerPart) (origin index stamp : ℕ) (slots : List Slot) (g : Key × Entry) → find_stage x origin index ≡ found → Has x.queue g → is_stage origin index g ≡ true
+pub commit_there : (found : Option (Key × Entry)) (x : PeerPart) (origin index stamp : ℕ) (slots : List Slot) (g : Key × Entry) → find_stage x origin index ≡ found → Has x.queue g → is_stage origin index g ≡ true
     → (f : Key × Entry) × Has (committed_by found x origin index stamp slots).queue f × (f.0 ≡ record { stamp = stamp; origin = origin; index = index }) × (is_data f.1 ≡ true)
 commit_there None x origin index stamp slots g none has is = let both : true ≡ false = sym is ∙ find_none (is_stage origin index) x.queue g none has in absurd (cc both)
 commit_there (Some h) x origin index stamp slots g found has is = (

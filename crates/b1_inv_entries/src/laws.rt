@@ -5,8 +5,8 @@ ghost use Rattle.b1_model.specs.Opening.{IsOpening};
 ghost use Rattle.b1_model.specs.MachineParts.{State};
 ghost use Rattle.b1_model.specs.MachineStep.{Step, opening_state};
 ghost use Rattle.b1_inv.specs.Sound.{IsSound};
-ghost use Rattle.b1_inv_record.specs.Entries.{CommittedHasCall, GoneBelowQueue, NoticesBelowStamp, PendingAboveTaken, PendingIsStaged, QueuedIsPresent};
-ghost use Rattle.b1_inv_record.specs.Right.{IsRight};
+ghost use Rattle.b1_inv_record.specs.Entries.{CommittedHasCall, EntryIsSomewhere, GoneBelowQueue, NoticesBelowStamp, PendingAboveTaken, PendingIsStaged, QueuedIsPresent};
+ghost use Rattle.b1_inv_record.specs.Right.{EntriesRight, IsRight};
 
 /// A step keeps own notices that are still staged below the stamp of their destruction, and every bus begins so.
 pub fn notices_stay_below_stamps()
@@ -44,4 +44,17 @@ pub fn waiting_places_stay_above()
 pub fn committed_messages_stay_called()
     ensures opening_CommittedHasCall { (o : Opening) → IsOpening o → CommittedHasCall o (opening_state o) }
     ensures kept_CommittedHasCall { (o : Opening) (s : State) (p : ℕ) (c : Option Command) (t : State) → IsSound o s → IsRight o s → Step o s p c t → CommittedHasCall o t }
+{}
+
+/// A step leaves each accepted place of a send of the record with the node that it names, and where that is of its
+/// peer's present epoch, its message queued, awaited, received, or cut off by the node's end; every bus begins so.
+pub fn entries_stay_somewhere()
+    ensures opening_EntryIsSomewhere { (o : Opening) → IsOpening o → EntryIsSomewhere o (opening_state o) }
+    ensures kept_EntryIsSomewhere { (o : Opening) (s : State) (p : ℕ) (c : Option Command) (t : State) → IsSound o s → IsRight o s → Step o s p c t → EntryIsSomewhere o t }
+{}
+
+/// A step keeps all that says where each entry of the record is, and every bus begins so.
+pub fn entries_stay_right()
+    ensures opening_EntriesRight { (o : Opening) → IsOpening o → EntriesRight o (opening_state o) }
+    ensures kept_EntriesRight { (o : Opening) (s : State) (p : ℕ) (c : Option Command) (t : State) → IsSound o s → IsRight o s → Step o s p c t → EntriesRight o t }
 {}
