@@ -147,7 +147,7 @@ module _ (me peer clock : ℕ) (command : Command) (before : Phase) (outcome : O
 
 staged_sends : (me peer clock : ℕ) (command : Command) (begun : Begun) (places : List (Option Reason)) (collected got : ℕ) → StagedAt me peer clock (Staging begun places collected) (out.Stage (Ok got))
     → Sends me peer clock command (Staging begun places collected) (out.Stage (Ok got)) begun (places ++ None ∷ []) (max collected got)
-staged_sends me peer clock command begun places collected got (same, node, at, owner) = record {
+staged_sends me peer clock command begun places collected got (same, (node, at, owner)) = record {
   early = refl;
   collects = omega arith;
   reached = λ y reached. (reached.0, reached.1, reached.2, more_places places None reached.0 reached.3, reached.4);
