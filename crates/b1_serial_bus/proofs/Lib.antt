@@ -1,0 +1,13 @@
+mod RowClientServer
+mod RowThreePlaces
+mod RowFullPool
+mod RowQuotaOfBytes
+mod RowDropBringsClock
+mod RowNoticeTakenBack
+mod RowRefusals
+mod RowDeadHandle
+mod RowLeastFree
+mod RowResetDisconnect
+mod RowStall
+mod RowClockLimit
+mod RowClockAtDestination
