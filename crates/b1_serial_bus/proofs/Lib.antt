@@ -1,3 +1,6 @@
+pub mod Shapes
+pub mod Quiet
+pub mod Counts
 mod RowClientServer
 mod RowThreePlaces
 mod RowFullPool
