@@ -1,6 +1,8 @@
 pub mod Shapes
 pub mod Quiet
 pub mod Counts
+pub mod Left
+pub mod Settled
 mod RowClientServer
 mod RowThreePlaces
 mod RowFullPool
