@@ -3,6 +3,7 @@ pub mod Quiet
 pub mod Counts
 pub mod Left
 pub mod Settled
+pub mod Rounded
 mod RowClientServer
 mod RowThreePlaces
 mod RowFullPool
