@@ -4,6 +4,7 @@ pub mod Counts
 pub mod Left
 pub mod Settled
 pub mod Rounded
+pub mod Emptied
 mod RowClientServer
 mod RowThreePlaces
 mod RowFullPool
