@@ -1,5 +1,5 @@
 -- A pass of the drain empties the box of each peer that hasn't disconnected, so a second one finds nothing.
-use Rattle.std.specs.Prelude.{◌≡◌, refl, ℕ, zero, suc, ◌+◌, ◌≤◌, ◌==◌, Bool, true, false, ◌&&◌, ◌||◌, not, if◌then◌else◌, List, [], ◌∷◌, ◌++◌, length, map, fold, zip, is_some}
+use Rattle.std.specs.Prelude.{◌≡◌, refl, ℕ, zero, suc, ◌+◌, ◌≤◌, Bool, true, false, ◌&&◌, not, if◌then◌else◌, List, [], ◌∷◌, ◌++◌, length, map, fold, zip, is_some}
 use Rattle.std.specs.List.{list_any}
 use Rattle.std.proofs.Common.{arith, sym, ap, ◌∙◌}
 use Rattle.b1_model.specs.declared.naming.Key.{Key}
@@ -11,7 +11,7 @@ use Rattle.b1_model.specs.declared.entries.Entry.TheVariants as entry
 use Rattle.b1_serial_bus.specs.Parts.{Part, Bus}
 use Rattle.b1_serial_bus.specs.Named.{line_of}
 use Rattle.b1_serial_bus.specs.References.{raised, new_line, with_reference}
-use Rattle.b1_serial_bus.specs.Arrival.{Arriving, arrives, arrived, taken_entry}
+use Rattle.b1_serial_bus.specs.Arrival.{Arriving, arrives, taken_entry}
 use Rattle.b1_serial_bus.specs.Receive.{is_for_nobody, without_discards, is_empty, cleared, received_from, received, waits}
 use Rattle.b1_serial_bus.specs.Drain.{received_times, is_full, pass}
 use Rattle.b1_serial_bus.proofs.Settled.{waits_empty}

@@ -1,5 +1,5 @@
 -- How many commands the peers have left: no command raises it, and one that its peer had left lowers it.
-use Rattle.std.specs.Prelude.{◌≡◌, refl, ℕ, zero, suc, ◌+◌, ◌<◌, ◌≤◌, List, [], ◌∷◌, length, drop, slice_get, Option, Some, None}
+use Rattle.std.specs.Prelude.{◌≡◌, refl, ℕ, zero, suc, ◌+◌, ◌<◌, ◌≤◌, List, [], ◌∷◌, length, drop, slice_get, Some}
 use Rattle.std.proofs.Common.{arith, sym, ap, ◌∙◌}
 use Rattle.std.proofs.lemmas.List.{length-drop}
 use Rattle.std.proofs.lemmas.Option.{same_Some}
@@ -26,6 +26,11 @@ came_from (suc p) (suc q) (t ∷ ts) s e = came_from p q ts s e
 
 pub numbered_more : (p : ℕ) (ss : List (ℕ × ℕ)) → AreNumbered ss → AreNumbered (one_more p ss)
 numbered_more p ss numbered q s e = let t = came_from p q ss s e in t.2 ∙ numbered q t.0 t.1
+
+pub as_many_more : (p : ℕ) (ss : List (ℕ × ℕ)) → length (one_more p ss) ≡ length ss
+as_many_more p [] = refl
+as_many_more zero (s ∷ ss) = refl
+as_many_more (suc p) (s ∷ ss) = ap suc (as_many_more p ss)
 
 -- no more is left behind one call more
 drop_less : {A : Type 0} (k : ℕ) (xs : List A) → length (drop (suc k) xs) ≤ length (drop k xs)

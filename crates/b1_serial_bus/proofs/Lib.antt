@@ -5,6 +5,8 @@ pub mod Left
 pub mod Settled
 pub mod Rounded
 pub mod Emptied
+pub mod Opened
+pub mod Ends
 mod RowClientServer
 mod RowThreePlaces
 mod RowFullPool

@@ -1,6 +1,6 @@
 -- What of a command changes no peer's number and adds no call: giving up, delivering, receiving, destroying.
-use Rattle.std.specs.Prelude.{◌≡◌, refl, ℕ, zero, suc, ◌+◌, Bool, true, false, if◌then◌else◌, List, [], ◌∷◌, ◌++◌, length, map, fold, zip, Option, Some, None, is_some}
-use Rattle.std.proofs.Common.{sym, ap, ◌∙◌}
+use Rattle.std.specs.Prelude.{◌≡◌, refl, ℕ, ◌+◌, Bool, true, false, if◌then◌else◌, List, [], ◌∷◌, ◌++◌, map, fold, zip, Option, Some, None, is_some}
+use Rattle.std.proofs.Common.{◌∙◌}
 use Rattle.b1_model.specs.declared.naming.Key.{Key}
 use Rattle.b1_model.specs.declared.naming.NodeRef.{NodeRef}
 use Rattle.b1_model.specs.declared.parts.Slot.{Slot}
@@ -15,7 +15,7 @@ use Rattle.b1_serial_bus.specs.References.{refers, is_abroad, raised, new_line, 
 use Rattle.b1_serial_bus.specs.GivenUp.{noticed, told, given_up}
 use Rattle.b1_serial_bus.specs.Letters.{Letter}
 use Rattle.b1_serial_bus.specs.Delivery.{with_message, without_notice, delivered, delivered_from}
-use Rattle.b1_serial_bus.specs.Arrival.{Arriving, arrives, arrived, taken_entry}
+use Rattle.b1_serial_bus.specs.Arrival.{Arriving, arrives, taken_entry}
 use Rattle.b1_serial_bus.specs.Notices.{node_of, with_notice, with_notices}
 use Rattle.b1_serial_bus.specs.Doom.{with_doomed, with_all_doomed, destroyed}
 use Rattle.b1_serial_bus.proofs.Shapes.{shape, shapes, quiet_at, quiet_all, quiet_fold}

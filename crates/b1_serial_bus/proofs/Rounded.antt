@@ -1,24 +1,24 @@
 -- A round leaves fewer commands, or all peers settled.
-use Rattle.std.specs.Prelude.{◌≡◌, refl, ℕ, zero, suc, ◌+◌, ◌≢◌, ◌<◌, ◌≤◌, ◌⊎◌, Bool, true, false, ◌||◌, not, if◌then◌else◌, List, [], ◌∷◌, length, map, drop, fold, slice_get, Option, Some, None, option_map}
+use Rattle.std.specs.Prelude.{◌≡◌, refl, ℕ, zero, suc, ◌+◌, ◌≢◌, ◌<◌, ◌≤◌, ◌⊎◌, Bool, true, false, if◌then◌else◌, List, [], ◌∷◌, length, fold, slice_get, Option, Some, None, option_map}
 use Rattle.std.specs.List.{range_with_len}
 use Rattle.std.proofs.Common.{arith, inl, inr, sym, ap, ◌∙◌}
 use Rattle.std.proofs.lemmas.Bool.{cases_eq}
 use Rattle.std.proofs.lemmas.Option.{same_Some, slice_get-map}
 use Rattle.b1_model.specs.declared.commands.Command.{Command}
-use Rattle.b1_model.specs.Script.{commands_of}
 use Rattle.b1_schedule.specs.Shortage.{Shortage}
 use Rattle.b1_serial_bus.specs.Parts.{Part, Bus, at_peer}
 use Rattle.b1_serial_bus.specs.Receive.{cleared}
 use Rattle.b1_serial_bus.specs.Commands.{after_command_of}
 use Rattle.b1_serial_bus.specs.Rounds.{Going, is_waiting, attempted, run, commands_left, round_at}
-use Rattle.b1_serial_bus.proofs.Shapes.{shape, shapes, one_more, quiet_at}
+use Rattle.b1_serial_bus.proofs.Shapes.{shape, shapes, quiet_at}
 use Rattle.b1_serial_bus.proofs.Counts.{counts}
-use Rattle.b1_serial_bus.proofs.Left.{left, AreNumbered, numbered_more, no_more_left, less_left}
-use Rattle.b1_serial_bus.proofs.Settled.{at_same, at_other, waiting_waits, waits_empty, waiting_again, Settled, SettledBy}
+use Rattle.b1_serial_bus.proofs.Left.{left, AreNumbered, numbered_more, as_many_more, no_more_left, less_left}
+use Rattle.b1_serial_bus.proofs.Settled.{at_same, at_other, waiting_waits, waits_empty, waiting_again, Settled}
 
--- the numbers stay, and no more is left
+-- the peers and their numbers stay, and no more is left
 pub record Lowers (lists : List (List Command)) (a b : Bus) : Type 0 where
   pub numbered : AreNumbered (shapes b)
+  pub as_many : length (shapes b) ≡ length (shapes a)
   pub fewer : left lists (shapes b) ≤ left lists (shapes a)
 
 -- only peer p changed, and it is settled
@@ -28,14 +28,14 @@ pub record Settles (lists : List (List Command)) (p : ℕ) (a b : Bus) : Type 0 
 
 module _ (lists : List (List Command)) (m : Shortage) where
   lowers_refl : (a : Bus) → AreNumbered (shapes a) → Lowers lists a a
-  lowers_refl a numbered = record { numbered = numbered; fewer = omega arith }
+  lowers_refl a numbered = record { numbered = numbered; as_many = refl; fewer = omega arith }
 
   lowers_more : (a b c : Bus) → Lowers lists a b → Lowers lists b c → Lowers lists a c
-  lowers_more a b c first second = record { numbered = second.numbered; fewer = let x = first.fewer in let y = second.fewer in omega (arith, x, y) }
+  lowers_more a b c first second = record { numbered = second.numbered; as_many = second.as_many ∙ first.as_many; fewer = let x = first.fewer in let y = second.fewer in omega (arith, x, y) }
 
   -- the same shapes
   lowers_same : (a b : Bus) → AreNumbered (shapes a) → shapes b ≡ shapes a → Lowers lists a b
-  lowers_same a b numbered same = record { numbered = rw same numbered; fewer = let e = ap (left lists) same in omega (arith, e) }
+  lowers_same a b numbered same = record { numbered = rw same numbered; as_many = ap length same; fewer = let e = ap (left lists) same in omega (arith, e) }
 
   -- the number of a peer that is there
   pub me_is : (bus : Bus) (p : ℕ) (x : Part) → AreNumbered (shapes bus) → slice_get bus p ≡ Some x → x.me ≡ p
@@ -44,7 +44,7 @@ module _ (lists : List (List Command)) (m : Shortage) where
   command_lowers : (p : ℕ) (c : Command) (x : Part) (bus : Bus) → AreNumbered (shapes bus) → slice_get bus p ≡ Some x → Lowers lists bus (after_command_of m p c bus)
   command_lowers p c x bus numbered there =
       let more = counts m p c x bus there (me_is bus p x numbered there) in
-      record { numbered = rw more (numbered_more p (shapes bus) numbered); fewer = rw more (no_more_left lists p (shapes bus)) }
+      record { numbered = rw more (numbered_more p (shapes bus) numbered); as_many = rw more (as_many_more p (shapes bus)); fewer = rw more (no_more_left lists p (shapes bus)) }
 
   -- ---- a peer's run
 

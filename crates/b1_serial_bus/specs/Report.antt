@@ -18,12 +18,15 @@ record_of bus = record {
 abbrev pub command_count : List (List Command) → ℕ
 command_count lists = sum_by (λ commands. length commands) lists
 
+-- the bus before the first round
+abbrev pub started : Opening → Play
+started o = record { bus = opened o; stage = Rounds }
+
 -- the script from its beginning to its end or its stall, with memory wanting at the places m. So
 -- many moves are enough: a round that gains ends a command, or else it only removes what is for
 -- nobody, and then the next one stalls; and the second pass of a drain finds nothing
 abbrev pub serial : Opening → List (List Command) → Shortage → Play
-serial o lists m =
-    moves lists m (command_count lists + 3) (record { bus = opened o; stage = Rounds })
+serial o lists m = moves lists m (command_count lists + 3) (started o)
 
 -- the script ends, and this is its record, where memory is wanting at the places m
 pub record IsSerial

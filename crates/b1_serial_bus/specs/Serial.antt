@@ -1,5 +1,6 @@
 -- The plain serial bus: a script's commands whole, one after another, in rounds, and then a drain.
-use Rattle.std.specs.Prelude.{ℕ, zero, suc, nat_lt, if◌then◌else◌, List, [], ◌∷◌}
+use Rattle.std.specs.Prelude.{ℕ, zero, suc, Bool, true, false, nat_lt, if◌then◌else◌}
+use Rattle.std.specs.Prelude.{List, [], ◌∷◌}
 use Rattle.std.specs.Prelude.{map, filter, length}
 use Rattle.b1_model.specs.declared.commands.Command.{Command}
 use Rattle.b1_schedule.specs.Shortage.{Shortage}
@@ -23,6 +24,10 @@ pub record Play : Type 0 where
 abbrev pub waiting_peers : List (List Command) → Bus → List ℕ
 waiting_peers lists bus =
     map (λ x. x.me) (filter (λ x. nat_lt 0 (length (commands_left lists x))) bus)
+
+-- the script has ended, or stalls
+abbrev pub is_over : Stage → Bool
+is_over stage = elim stage [ Rounds ↦ false | Passes ↦ false | Finished ↦ true | Stalled ↦ true ]
 
 -- after a round: the drain where no command is left, else another round where it gained
 abbrev pub after_round : List (List Command) → Going → Play
