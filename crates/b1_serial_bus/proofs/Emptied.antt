@@ -68,18 +68,18 @@ taken_shortens (f ∷ rest) y e =
 
 -- where the peer hasn't disconnected, an attempt leaves less in its box, or nothing
 tried_shortens : (n : ℕ) (x : Part) → x.shut ≡ false → length x.box ≤ suc n → ((tried x).shut ≡ false) × (length (tried x).box ≤ n)
-tried_shortens n x unshut few = by (waits x) refl
+tried_shortens n x connected few = by (waits x) refl
   where
     fewer : length (cleared x).box ≤ length x.box
     fewer = discards_shorten x x.box
 
     by : (b : Bool) → waits x ≡ b → ((if b then cleared x else received x).shut ≡ false) × (length (if b then cleared x else received x).box ≤ n)
-    by true w = (unshut, let none = ap length (waits_empty x w) in omega (arith, none))
+    by true w = (connected, let none = ap length (waits_empty x w) in omega (arith, none))
     by false w =
-        let full : is_empty (cleared x).box ≡ false = sym (rw unshut refl) ∙ w in
+        let full : is_empty (cleared x).box ≡ false = sym (rw connected refl) ∙ w in
         let one = taken_shortens (cleared x).box (cleared x) full in
         let less = one.1 in
-        (one.0 ∙ unshut, omega (arith, less, fewer, few))
+        (one.0 ∙ connected, omega (arith, less, fewer, few))
 
 nothing_left : (box : List (Key × Entry)) → length box ≤ 0 → box ≡ []
 nothing_left [] few = refl
@@ -87,8 +87,8 @@ nothing_left (f ∷ rest) few = absurd (omega (arith, few))
 
 -- as many attempts as there are entries empty the box
 times_empty : (n : ℕ) (x : Part) → x.shut ≡ false → length x.box ≤ n → (received_times n x).box ≡ []
-times_empty zero x unshut few = nothing_left x.box few
-times_empty (suc n) x unshut few = let less = tried_shortens n x unshut few in times_empty n (tried x) less.0 less.1
+times_empty zero x connected few = nothing_left x.box few
+times_empty (suc n) x connected few = let less = tried_shortens n x connected few in times_empty n (tried x) less.0 less.1
 
 -- ---- a pass
 
