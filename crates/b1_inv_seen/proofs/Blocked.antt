@@ -39,6 +39,7 @@ dying_there [] serial is = absurd (cc is)
 dying_there (n ∷ rest) zero is = refl
 dying_there (n ∷ rest) (suc serial) is = dying_there rest serial is
 
+-- a dying node is not live
 not_live : (state : NodeState) → is_dying state ≡ true → is_live state ≡ false
 not_live Live is = absurd (cc is)
 not_live Dying is = refl
@@ -58,6 +59,7 @@ dooms_not_unstaging : (phase : Phase) (i serial : ℕ) → slice_get (doomed_of 
 dooms_not_unstaging (Unstaging begun places refused place) i serial is = absurd (cc is)
 dooms_not_unstaging phase i serial is = refl
 
+-- a command that dooms nodes is open, and takes nothing back
 doing_there : (doing : Option Doing) (i serial : ℕ) → slice_get (elim doing [ None ↦ [] | Some one ↦ doomed_of one.phase ]) i ≡ Some serial → (one : Doing) × (doing ≡ Some one) × (is_unstaging one.phase ≡ false)
 doing_there None i serial is = absurd (cc is)
 doing_there (Some one) i serial is = (one, refl, dooms_not_unstaging one.phase i serial is)
@@ -77,9 +79,8 @@ module _ {o : Opening} {s : State} (sound : IsSound o s) (right : IsRight o s) (
       let h = held_record node x.handles some in
       let is_record : record_or_none node x.handles ≡ h.0 = ap (or_none node) (ap (λ n. record_of n x.handles) (sym h.2) ∙ record_found x.handles h.0 (sound.rising q x is_peer) h.1) in
       subst (λ k. IsCovered q k y e) (sym is_record)
-      (
       (right.holders.covered.held q x h.0 y e is_peer h.1 (let as_often = h.3 in omega (arith, as_often, some)) (subst (λ n. IsPeer s n.owner y) (sym h.2) is_owner) (subst (λ n. IsDriver s n.owner e) (sym h.2) is_driver)
-      (subst (λ n. is_live (node_at y n.serial).state ≡ false) (sym h.2) (not_live (node_at y node.serial).state dying))))
+      (subst (λ n. is_live (node_at y n.serial).state ≡ false) (sym h.2) (not_live (node_at y node.serial).state dying)))
   covered_record (inr (f, j, there, even, node_is, slot_is)) =
       right.holders.covered.carried q j x f node y e is_peer there node_is (ap (λ l. slice_get l j) (slots_committed (is_staged f) _ (slots_of f.1) even) ∙ slot_is) is_owner is_driver (not_live (node_at y node.serial).state dying)
 
@@ -102,6 +103,7 @@ module _ {o : Opening} {s : State} (sound : IsSound o s) (right : IsRight o s) (
               let now : collected_now e ≡ collected_of d.0.phase = ap (λ doing. elim doing [ None ↦ 0 | Some one ↦ collected_of one.phase ]) d.1 in
               (k, i, there, odd, omega (arith, low, now))
 
+  -- its record is not dead
   no_dead : (record_or_none node x.handles).dead ≡ true → ⊥
   no_dead dead =
       let h = flagged_there node x.handles (inr dead) in

@@ -48,35 +48,44 @@ live_or_dying Dying is = inr refl
 live_or_dying (Destroyed stamp) is = absurd (cc is)
 
 module _ {o : Opening} {s : State} {p : ℕ} {c : Option Command} {t : State} (sound : IsSound o s) (right : IsRight o s) (step : Step o s p c t) where
+  -- what is to be shown
   abbrev Then : ℕ → ℕ → PeerPart → DriverPart → Type 0
   Then low q y e = ((low ≤ y.clock) ⊎ (low ≤ collected_now e)) ⊎ IsDue q y e
 
   -- a receipt that was there before
   module _ (q k : ℕ) (one : Call) (key : Key) (n : Node) (there : slice_get (calls_of (record_of_state s) q) k ≡ Some one) (got : got_key one.answer ≡ Some key) (seen : IsSeen o t q k n) (x y : PeerPart) (e : DriverPart)
       (is_peer : IsPeer t q x) (is_owner : IsPeer t n.owner y) (is_driver : IsDriver t n.owner e) (dying : is_dying (node_at y n.serial).state ≡ true) where
+    -- the holder's part, before the step
     x_was : (z : PeerPart) × IsPeer s q z
     x_was = part_before sound right step q x is_peer
 
+    -- the owner's part, before
     y_was : (z : PeerPart) × IsPeer s n.owner z
     y_was = part_before sound right step n.owner y is_owner
 
+    -- the owner's driver, before
     e_was : (d : DriverPart) × IsDriver s n.owner d
     e_was = driver_before sound right step n.owner e is_driver
 
+    -- the holder's driver, before
     d_was : (d : DriverPart) × IsDriver s q d
     d_was = driver_of sound right step q x_was.0 x_was.1
 
+    -- the node stood in the table before
     was_seen : IsSeen o s q k n
     was_seen = seen_before sound right step q k one key n there got seen
 
+    -- the node was not destroyed
     was_alive : is_destroyed (node_at y_was.0 n.serial).state ≡ false
     was_alive = alive_before sound right step q k one key n there got seen y_was.0 y y_was.1 is_owner (not_destroyed (node_at y n.serial).state dying)
 
+    -- where the node was dying
     was_dying : is_dying (node_at y_was.0 n.serial).state ≡ true → Then key.stamp q y e
     was_dying dies =
         collects_on sound right.holders.covered step q key.stamp x_was.0 (ref_of n) y_was.0 y e_was.0 e x_was.1 (listed_low sound right step q k one key n there got seen x_was.0 x_was.1) y_was.1 is_owner e_was.1 is_driver dies dying
         (right.holders.collected.collected q k x_was.0 one key n y_was.0 e_was.0 x_was.1 there got was_seen y_was.1 e_was.1 dies)
 
+    -- where it was live
     was_live : is_live (node_at y_was.0 n.serial).state ≡ true → Then key.stamp q y e
     was_live alive = elim (begins_due sound right.holders.covered step key.stamp q x_was.0 d_was.0 (ref_of n) y_was.0 y e x_was.1 d_was.1 y_was.1 is_owner is_driver
         (y_was.0, y_was.1, node_made sound right step q k one key n there got seen y_was.0 y_was.1) alive dying
@@ -85,21 +94,26 @@ module _ {o : Opening} {s : State} {p : ℕ} {c : Option Command} {t : State} (s
           | inr due ↦ inr due
         ]
 
+    -- where it was either
     old_collected : Then key.stamp q y e
     old_collected = elim (live_or_dying (node_at y_was.0 n.serial).state was_alive) [ inl alive ↦ was_live alive | inr dies ↦ was_dying dies ]
 
   -- a new receipt
   module _ (new : NewCall step) (key : Key) (got : got_key new.call.answer ≡ Some key) (n : Node) (x y : PeerPart) (e : DriverPart)
       (is_peer : IsPeer t p x) (is_owner : IsPeer t n.owner y) (is_driver : IsDriver t n.owner e) (dying : is_dying (node_at y n.serial).state ≡ true) (some : 1 ≤ held_in (ref_of n) x.handles) where
+    -- the state after the step is sound
     after : IsSound o t
     after = step_sound o s p c t sound step
 
+    -- the node's record after the receipt
     held_now : (h : HandleRecord) × Has x.handles h × (h.node ≡ ref_of n) × (h.held ≡ held_in (ref_of n) x.handles)
     held_now = held_record (ref_of n) x.handles some
 
+    -- the node is another peer's
     other : n.owner ≢ p
     other same = after.flights.foreign p x held_now.0 is_peer held_now.1 (ap (λ m. m.owner) held_now.2 ∙ same)
 
+    -- the part that the receipt left
     is_new : x ≡ step.new_peer
     is_new = elim (peer_cases step p x is_peer) [ inl here ↦ here.1 | inr there ↦ absurd (there.0 (sym (at_own sound right step new key got))) ]
 
@@ -116,12 +130,15 @@ module _ {o : Opening} {s : State} {p : ℕ} {c : Option Command} {t : State} (s
           | inr came ↦ inr (subst (TakenIn step.peer) held_now.2 came)
         ]
 
+    -- the owner's part is as before
     owner_was : IsPeer s n.owner y
     owner_was = elim (peer_cases step n.owner y is_owner) [ inl here ↦ absurd (other (here.0 ∙ at_own sound right step new key got)) | inr there ↦ there.1 ]
 
+    -- the owner's driver is as before
     driver_was : IsDriver s n.owner e
     driver_was = elim (driver_cases step n.owner e is_driver) [ inl own ↦ absurd (other own.0) | inr there ↦ there.1 ]
 
+    -- the taken key is collected, or the holder is still to be visited
     new_collected : Then key.stamp p y e
     new_collected =
         let front = (receipt_taken step new key got).1 in
@@ -131,6 +148,7 @@ module _ {o : Opening} {s : State} {p : ℕ} {c : Option Command} {t : State} (s
           | inr due ↦ inr due
         ]
 
+  -- a step keeps it
   pub collected_kept : SeenCollected o t
   collected_kept = record {
     collected = λ q k x one key n y e is_peer at got seen is_owner is_driver dying. elim (receipt_cases sound right step q k one at) [

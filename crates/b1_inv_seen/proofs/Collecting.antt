@@ -39,6 +39,7 @@ abbrev pub Collects : ℕ → ℕ → Option Doing → Type 0
 Collects low serial doing = Has (elim doing [ None ↦ [] | Some one ↦ dying_of one.phase ]) serial → low ≤ elim doing [ None ↦ 0 | Some one ↦ collected_of one.phase ]
 
 module _ (command : Command) (low serial : ℕ) where
+  -- a destruction that visits on, or is at its stamp
   collects_visiting : (d : Destruction) (left : List ℕ) → low ≤ d.collected → Collects low serial (Some (doing_in command (visiting d left)))
   collects_visiting d [] high there = high
   collects_visiting d (peer ∷ rest) high there = high
@@ -65,6 +66,7 @@ module _ (command : Command) (low serial : ℕ) where
   visit_turn me q (Visiting d left) got high there = collects_visiting (with_visit d (get_or left 0 me) got) (drop 1 left) (omega (arith, high))
   visit_turn me q phase got high there = absurd there
 
+  -- an ended command has no dying node
   collects_ends : (phase : Phase) → may_end phase ≡ true → Collects low serial (Some (doing_in command phase)) → Collects low serial None
   collects_ends phase may before there = absurd there
 
@@ -77,12 +79,14 @@ module _ {o : Opening} {s : State} {p : ℕ} {c : Option Command} {t : State} (s
       subst (λ e. Collects low serial e.doing) (parts step).is_driver
       (took_leaves (Collects low serial) (parts step).command (collects_ends (parts step).command low serial) step.driver (parts step).phase step.driver.owed (going_answer step) turned)
 
+  -- what the driver has collected, by its phase
   open_collected : (low : ℕ) → low ≤ collected_now step.driver → (serial : ℕ) → Has (dying_of (parts step).phase) serial → low ≤ collected_of (parts step).phase
   open_collected low high serial dies = elim (parts step).was [
     | inl open_is ↦ subst (λ doing. low ≤ elim doing [ None ↦ 0 | Some one ↦ collected_of one.phase ]) open_is high
     | inr new ↦ absurd (subst (λ phase. Has (dying_of phase) serial) new.1 dies)
   ]
 
+  -- a visit answers the visited peer's clock
   visit_is : (q : ℕ) → Has (to_visit step.driver) q → going_answer step ≡ out.Visit (visit_answer step.peer step.driver.me (doomed_of (parts step).phase))
   visit_is q left = ap (λ a. (happens o step.local.memory (going step) (going_doing step) a step.peer).0) (visits sound covered step q left)
 
@@ -90,6 +94,7 @@ module _ {o : Opening} {s : State} {p : ℕ} {c : Option Command} {t : State} (s
   module _ (q low : ℕ) (x : PeerPart) (node : NodeRef) (y y_then : PeerPart) (e e_then : DriverPart) (is_peer : IsPeer s q x) (high : low ≤ x.clock)
       (owner_was : IsPeer s node.owner y) (owner_now : IsPeer t node.owner y_then) (driver_was : IsDriver s node.owner e) (driver_now : IsDriver t node.owner e_then)
       (dying : is_dying (node_at y node.serial).state ≡ true) (still : is_dying (node_at y_then node.serial).state ≡ true) where
+    -- what is to be shown
     abbrev Then : Type 0
     Then = ((low ≤ y_then.clock) ⊎ (low ≤ collected_now e_then)) ⊎ IsDue q y_then e_then
 
@@ -98,20 +103,25 @@ module _ {o : Opening} {s : State} {p : ℕ} {c : Option Command} {t : State} (s
     dies_then = (step_sound o s p c t sound step).notices.dying node.owner e_then y_then node.serial driver_now owner_now still
 
     module _ (own : node.owner ≡ p) (new : e_then ≡ step.new_driver) where
+      -- the owner's part is the driver's own
       own_was : IsPeer s p y
       own_was = subst (λ r. IsPeer s r y) own owner_was
 
+      -- the open destruction dooms the node
       own_dies : Has (dying_of (parts step).phase) node.serial
       own_dies = doomed_here sound covered step y node.serial own_was dying
 
+      -- and so it does after the step
       new_dies : Has (dying_now step.new_driver) node.serial
       new_dies = subst (λ d. Has (dying_now d) node.serial) new dies_then
 
+      -- what was collected stays so
       collected_on : low ≤ collected_now step.driver → Then
       collected_on enough =
           inl (inr (subst (λ d. low ≤ collected_now d) (sym new)
           (collected_then low node.serial (collects_turn (parts step).command low node.serial step.driver.me (parts step).phase (going_answer step) (open_collected low enough node.serial own_dies) own_dies) new_dies)))
 
+      -- who was to be visited still is, or its clock is collected
       visit_on : Has (to_visit step.driver) q → Then
       visit_on left = elim (cases_eq q step.at) [
         | inr apart ↦ inr (inl (subst (λ d. Has (to_visit d) q) (sym new) (left_after sound covered step q left apart)))
@@ -124,6 +134,7 @@ module _ {o : Opening} {s : State} {p : ℕ} {c : Option Command} {t : State} (s
             (collected_then low node.serial (subst (λ a. OnTurn (parts step).command (Collects low node.serial) (turn step.driver.me (parts step).command (parts step).phase a)) (sym (visit_is q left)) turned) new_dies)))
       ]
 
+      -- who came late is visited then
       late_doomed : dooms (going_action step) ≡ true → Has step.peer.late q → Then
       late_doomed doom late =
           let k = doom_late o step.local.memory step.driver (parts step).command step.peer q node.serial (parts step).phase step.driver.owed doom own_dies late in
@@ -133,18 +144,21 @@ module _ {o : Opening} {s : State} {p : ℕ} {c : Option Command} {t : State} (s
     own_driver : node.owner ≡ p → e ≡ step.driver
     own_driver own = same_Some e step.driver (sym driver_was ∙ ap (slice_get s.drivers) own ∙ step.is_driver)
 
+    -- what was collected stays so, whoever steps
     collected_stays : low ≤ collected_now e → Then
     collected_stays enough = elim (driver_cases step node.owner e_then driver_now) [
       | inr other ↦ inl (inr (subst (λ d. low ≤ collected_now d) (same_Some e e_then (sym driver_was ∙ other.1)) enough))
       | inl own ↦ collected_on own.0 own.1 (subst (λ d. low ≤ collected_now d) (own_driver own.0) enough)
     ]
 
+    -- who was to be visited still is, or its clock is collected, whoever steps
     visit_stays : Has (to_visit e) q → Then
     visit_stays left = elim (driver_cases step node.owner e_then driver_now) [
       | inr other ↦ inr (inl (subst (λ d. Has (to_visit d) q) (same_Some e e_then (sym driver_was ∙ other.1)) left))
       | inl own ↦ visit_on own.0 own.1 (subst (λ d. Has (to_visit d) q) (own_driver own.0) left)
     ]
 
+    -- who came late still is to be visited
     late_stays : Has y.late q → Then
     late_stays late = elim (peer_cases step node.owner y_then owner_now) [
       | inr there ↦ inr (inr (subst (λ z. Has z.late q) (same_Some y y_then (sym owner_was ∙ there.1)) late))

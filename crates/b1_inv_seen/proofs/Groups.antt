@@ -24,6 +24,7 @@ use Rattle.b1_inv_seen.proofs.SeenBegins.{travels_begin, collected_begins}
 use Rattle.b1_inv_seen.proofs.SeenKept.{travels_kept}
 use Rattle.b1_inv_seen.proofs.CollectedKept.{collected_kept}
 
+-- names, where a bus begins
 pub names_begin : (o : Opening) → IsOpening o → NamesRight o (opening_state o)
 names_begin o valid = record {
   made = numbers_begin o;
@@ -34,6 +35,7 @@ names_begin o valid = record {
   epochs = epochs_begin o;
 }
 
+-- holders, where a bus begins
 pub holders_begin : (o : Opening) → IsOpening o → HoldersRight o (opening_state o)
 holders_begin o valid = record {
   covered = covered_begins o valid;
@@ -44,6 +46,7 @@ holders_begin o valid = record {
 }
 
 module _ {o : Opening} {s : State} {p : ℕ} {c : Option Command} {t : State} (sound : IsSound o s) (right : IsRight o s) (step : Step o s p c t) where
+  -- names, behind a step
   pub names_kept : NamesRight o t
   names_kept = record {
     made = numbers_kept sound right.names.made step;
@@ -54,6 +57,7 @@ module _ {o : Opening} {s : State} {p : ℕ} {c : Option Command} {t : State} (s
     epochs = epochs_kept sound right.names.epochs step;
   }
 
+  -- holders, behind a step
   pub holders_kept : HoldersRight o t
   holders_kept = record {
     covered = record { held = held_kept sound right.holders.covered step; carried = carried_kept sound right.holders.covered step };

@@ -50,6 +50,7 @@ module _ (node : NodeRef) where
       ]
 
   module _ (o : Opening) (memory : Bool) (d : DriverPart) (doing : Doing) (x : PeerPart) (up : Rising x.handles) (all : AreNumbered x.given x.handles) where
+    -- the part after an event
     abbrev behind : Action → PeerPart
     behind action = (happens o memory d doing action x).1
 
@@ -57,12 +58,15 @@ module _ (node : NodeRef) where
     abbrev pub IsReleased : Action → Type 0
     IsReleased action = (action ≡ act.Release) × (released x (number_of doing.command) ≡ Ok (record { node = node; clock = x.clock }))
 
+    -- it is held, or to be given up, or released
     abbrev pub HeldThen : Action → Type 0
     HeldThen action = ((1 ≤ held_in node (behind action).handles) ⊎ (1 ≤ dead_amount node (behind action).dead)) ⊎ IsReleased action
 
+    -- an event that leaves what a table sees
     plain_holds : (action : Action) → is_plain action ≡ true → 1 ≤ held_in node x.handles → HeldThen action
     plain_holds action plain some = inl (inl (kept_holds x.handles (behind action).handles (rises o memory d doing action x up) (plain_event o memory d doing x action plain).1 some))
 
+    -- a release
     release_holds : (number : ℕ) → (b : Bool) (held : Option NodeRef) → is_given number ≡ b → held_node number x.handles ≡ held → 1 ≤ held_in node x.handles
         → (1 ≤ held_in node (given_up b held x).handles) ⊎ (released_by b held x number ≡ Ok (record { node = node; clock = x.clock }))
     release_holds number false held is at some = inl some
@@ -73,6 +77,7 @@ module _ (node : NodeRef) where
         by true same = inr (ap (λ n. Ok (record { node = n; clock = x.clock })) (same_ref_is other node same))
         by false apart = inl (let same = view_other (λ h. h.held) less_held (λ h. refl) other node x.handles apart in omega (arith, same, some))
 
+    -- a flush gives up what was held
     flush_dead : dead_amount node (behind act.Flush).dead ≡ dead_amount node (queued_items x.queue x.dead) + held_in node x.handles
     flush_dead = dead_append node (queued_items x.queue x.dead) (held_items x.given x.handles) ∙ ap (λ n. dead_amount node (queued_items x.queue x.dead) + n) (held_items_amount node x.given x.handles all up)
 
@@ -103,9 +108,11 @@ module _ (node : NodeRef) where
     abbrev pub IsReaped : Action → Type 0
     IsReaped action = (action ≡ act.Reap) × ((item : Refs) × (rest : List Refs) × (x.dead ≡ item ∷ rest) × (1 ≤ amount_in node item))
 
+    -- it is still to be given up, or reaped
     abbrev pub DeadThen : Action → Type 0
     DeadThen action = (1 ≤ dead_amount node (behind action).dead) ⊎ IsReaped action
 
+    -- a reap takes one item
     reap_dead : (dead : List Refs) → x.dead ≡ dead → 1 ≤ dead_amount node dead → (1 ≤ dead_amount node (drop 1 dead)) ⊎ ((item : Refs) × (rest : List Refs) × (x.dead ≡ item ∷ rest) × (1 ≤ amount_in node item))
     reap_dead [] is none = absurd (omega (arith, none))
     reap_dead (item ∷ rest) is some = by (amount_in node item) refl
@@ -114,9 +121,11 @@ module _ (node : NodeRef) where
         by zero none = inl (let all_of = dead_cons node item rest in omega (arith, all_of, none, some))
         by (suc n) more = inr (item, rest, is, omega (arith, more))
 
+    -- an event that leaves the dead list
     same_dead : (action : Action) → (behind action).dead ≡ x.dead → 1 ≤ dead_amount node x.dead → DeadThen action
     same_dead action same some = inl (let amount = ap (dead_amount node) same in omega (arith, amount, some))
 
+    -- a node to which references were to be given up
     pub dead_then : (action : Action) → 1 ≤ dead_amount node x.dead → DeadThen action
     dead_then act.Recv some = inl (let more = recv_dead node x in omega (arith, more, some))
     dead_then act.Reap some = elim (reap_dead x.dead refl some) [ inl left ↦ inl left | inr item ↦ inr (refl, item) ]

@@ -40,6 +40,7 @@ module _ (node : NodeRef) where
           let found : record_of node (changed other f hs) ≡ kept_by f (record_of node hs) = subst (λ n. record_of n (changed other f hs) ≡ kept_by f (record_of n hs)) (same_ref_is other node is) (own_changed other f keeps hs up) in
           subst (λ z. held_in node hs ≤ (or_none node z).held) (sym found) (own (record_of node hs))
 
+  -- one slot arrives
   slot_holds : (a : Arriving) (with : NodeRef) (s : Slot) → Rising a.part.handles → held_in node a.part.handles ≤ held_in node (slot_arrives a (with, s)).part.handles
   slot_holds a with slot.Unattached up = let same = held_unexpected node (foreign a.part.me (with ∷ [])) a.part.handles up in omega (arith, same)
   slot_holds a with slot.Void up = let same = held_unexpected node (foreign a.part.me (with ∷ [])) a.part.handles up in omega (arith, same)
@@ -50,6 +51,7 @@ module _ (node : NodeRef) where
       by true = held_grows with less_flight (λ h. refl) (λ h. omega arith) a.part.handles up
       by false = held_grows with (λ g. more_held (next_number a.part.given) (less_flight g)) (λ h. refl) (λ h. omega arith) a.part.handles up
 
+  -- all slots arrive
   slots_hold : (nodes : List NodeRef) (slots : List Slot) (a : Arriving) → Rising a.part.handles → held_in node a.part.handles ≤ held_in node (fold slot_arrives a (zip nodes slots)).part.handles
   slots_hold [] slots a up = omega arith
   slots_hold (n ∷ nodes) [] a up = omega arith
@@ -58,16 +60,19 @@ module _ (node : NodeRef) where
       let rest = slots_hold nodes slots (slot_arrives a (n, s)) (slot_rising a n s up) in
       omega (arith, one, rest)
 
+  -- an entry is taken
   taken_holds : (e : Entry) (k : Key) (x : PeerPart) → Rising x.handles → held_in node x.handles ≤ held_in node (taken_entry x k e).1.handles
   taken_holds (Message origin user index serial offset len nodes slots handles payload) k x up = slots_hold nodes slots _ up
   taken_holds (OwnNotice serial index) k x up = omega arith
   taken_holds (ForeignNotice other index) k x up = held_grows other made_dead (λ h. refl) (λ h. omega arith) x.handles up
   taken_holds (ReleaseNotice serial) k x up = omega arith
 
+  -- the front is taken, where it is committed
   front_holds : (b : Bool) (x : PeerPart) (f : Key × Entry) (rest : Items) → Rising x.handles → held_in node x.handles ≤ held_in node (front_by b x f rest).1.handles
   front_holds true x f rest up = omega arith
   front_holds false x f rest up = taken_holds f.1 f.0 (record x { queue = rest }) up
 
+  -- the front is taken, if there is one
   by_queue_holds : (queue : Items) (x : PeerPart) → Rising x.handles → held_in node x.handles ≤ held_in node (front_taken x queue).1.handles
   by_queue_holds [] x up = omega arith
   by_queue_holds (f ∷ rest) x up = front_holds (is_staged f) x f rest up
@@ -82,6 +87,7 @@ module _ (node : NodeRef) where
 
   -- ---- what is to be given up
 
+  -- an entry is taken
   taken_dead : (e : Entry) (k : Key) (x : PeerPart) → dead_amount node x.dead ≤ dead_amount node (taken_entry x k e).1.dead
   taken_dead (Message origin user index serial offset len nodes slots handles payload) k x =
       let a : Arriving = record { part = record x { slices = published offset x.slices }; numbers = []; refs = [] } in
@@ -92,14 +98,17 @@ module _ (node : NodeRef) where
   taken_dead (ForeignNotice other index) k x = omega arith
   taken_dead (ReleaseNotice serial) k x = omega arith
 
+  -- the front is taken, where it is committed
   front_dead : (b : Bool) (x : PeerPart) (f : Key × Entry) (rest : Items) → dead_amount node x.dead ≤ dead_amount node (front_by b x f rest).1.dead
   front_dead true x f rest = omega arith
   front_dead false x f rest = taken_dead f.1 f.0 (record x { queue = rest })
 
+  -- the front is taken, if there is one
   by_queue_dead : (queue : Items) (x : PeerPart) → dead_amount node x.dead ≤ dead_amount node (front_taken x queue).1.dead
   by_queue_dead [] x = omega arith
   by_queue_dead (f ∷ rest) x = front_dead (is_staged f) x f rest
 
+  -- a RECV leaves what is to be given up
   pub recv_dead : (x : PeerPart) → dead_amount node x.dead ≤ dead_amount node (received_part x).dead
   recv_dead x =
       let one = (all_removed (discards x) (record x { queue = drop (length (discards x)) x.queue })).dead node in

@@ -34,6 +34,7 @@ seen_got (ans.Got (rec.Destroyed k number)) key is = ap (option_map (λ z. z.sta
 seen_got (ans.Got (rec.Released stamp number)) key is = absurd (cc is)
 seen_got got key is = absurd (cc is)
 
+-- a fact of all elements
 each_has : {A : Type 0} (P : A → Type 0) (xs : List A) (x : A) → Each P xs → Has xs x → P x
 each_has P [] x all there = absurd there
 each_has P (y ∷ rest) x all (inl same) = subst P (sym same) all.0

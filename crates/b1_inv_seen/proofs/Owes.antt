@@ -46,11 +46,13 @@ module _ {o : Opening} {s : State} {p : ℕ} {c : Option Command} {t : State} (s
   abbrev pub OwesNow : NodeRef → ℕ → Type 0
   OwesNow node clock = (one : OwedDrop) × Has step.new_driver.owed one × (same_ref one.node node ≡ true) × (one.holder ≡ step.driver.me) × (one.clock ≡ clock)
 
+  -- what is owed, by the event's answer
   new_owed : step.new_driver.owed ≡ owed_after step.driver.me (parts step).phase step.driver.owed (going_answer step)
   new_owed =
       ap (λ e. e.owed) (sym (parts step).is_driver)
       ∙ turned_owed (with_facts (going step) (going_doing step) (going_answer step)) (parts step).command (turn step.driver.me (parts step).command (parts step).phase (going_answer step))
 
+  -- the event's answer, by the event
   answer_is : (action : Action) → going_action step ≡ action → going_answer step ≡ (happens o step.local.memory (going step) (going_doing step) action step.peer).0
   answer_is action is = ap (λ a. (happens o step.local.memory (going step) (going_doing step) a step.peer).0) is
 

@@ -16,6 +16,7 @@ use Rattle.b1_inv_tools.proofs.Openings.{opening_idle}
 use Rattle.b1_inv_notices.proofs.Turns.{get_there}
 use Rattle.b1_inv_names.proofs.Recorded.{recorded_calls}
 
+-- no peer has a call
 no_call : (o : Opening) (q k : ℕ) (x : PeerPart) (one : Call) → IsPeer (opening_state o) q x → slice_get (calls_of (record_of_state (opening_state o)) q) k ≡ Some one → ⊥
 no_call o q k x one is_peer at =
     let n = opening_numbered o in
@@ -24,8 +25,10 @@ no_call o q k x one is_peer at =
     let both : None ≡ Some one = sym (ap (λ calls. slice_get calls k) none) ∙ at in
     absurd (cc both)
 
+-- so what holders took travels
 pub travels_begin : (o : Opening) → SeenTravels o (opening_state o)
 travels_begin o = record { travels = λ q k x d one key n y is_peer is_driver at got seen is_owner alive. absurd (no_call o q k x one is_peer at) }
 
+-- and is collected
 pub collected_begins : (o : Opening) → SeenCollected o (opening_state o)
 collected_begins o = record { collected = λ q k x one key n y e is_peer at got seen is_owner is_driver dies. absurd (no_call o q k x one is_peer at) }

@@ -47,20 +47,24 @@ module _ {o : Opening} {s : State} {p : ℕ} {c : Option Command} {t : State} (s
     | inr other ↦ (d, other.1)
   ]
 
+  -- a peer's driver
   pub driver_of : (q : ℕ) (x : PeerPart) → IsPeer s q x → (e : DriverPart) × IsDriver s q e
   driver_of q x is = get_there s.drivers q (let within = slice_get_within s.peers q x is in omega (arith, within, sound.numbered.as_many_peers, sound.numbered.as_many_drivers))
 
   -- a receipt that was there before, and what its peer saw with it
   module _ (q k : ℕ) (one : Call) (key : Key) (n : Node) (there : slice_get (calls_of (record_of_state s) q) k ≡ Some one) (got : got_key one.answer ≡ Some key) (seen : IsSeen o t q k n) where
+    -- the call is one of those before the step
     low_call : k < calls_len (record_of_state s) q
     low_call = slice_get_within (calls_of (record_of_state s) q) k one there
 
+    -- the node stood in the table before the step
     pub seen_before : IsSeen o s q k n
     seen_before = elim seen.1 [
       | inl before ↦ (seen.0, inl (subst (λ z. Has z.lines seen.0) (table_stays sound step right.legal q k (let low = low_call in omega (arith, low))) before), seen.2)
       | inr behind ↦ (seen.0, inr (subst (λ z. Has z.lines seen.0) (table_stays sound step right.legal q (suc k) (let low = low_call in omega (arith, low))) behind), seen.2)
     ]
 
+    -- the receipt is at most its peer's clock
     pub listed_low : (x : PeerPart) → IsPeer s q x → key.stamp ≤ x.clock
     listed_low x is = right.clocks.listed.below q x one key.stamp is (has_at (calls_of (record_of_state s) q) k one there) (seen_got one.answer key got)
 
@@ -79,6 +83,7 @@ module _ {o : Opening} {s : State} {p : ℕ} {c : Option Command} {t : State} (s
         by false is = is
         by true is = let both : true ≡ false = sym (destroyed_stay step n.owner n.serial y y_then was now (node_made y was) is) ∙ alive in absurd (cc both)
 
+    -- what was taken before travels on
     old_travels : (x : PeerPart) (d : DriverPart) (y : PeerPart) → IsPeer t q x → IsDriver t q d → IsPeer t n.owner y → is_destroyed (node_at y n.serial).state ≡ false → Travels key.stamp q x d y (ref_of n)
     old_travels x d y is_peer is_driver is_owner alive =
         let x_was = part_before sound right step q x is_peer in
@@ -89,12 +94,15 @@ module _ {o : Opening} {s : State} {p : ℕ} {c : Option Command} {t : State} (s
 
   -- a new receipt: the nodes of the table before it and behind it are held
   module _ (new : NewCall step) (key : Key) (got : got_key new.call.answer ≡ Some key) where
+    -- the event is a RECV
     receives : going_action step ≡ act.Recv
     receives = (receipt_taken step new key got).0
 
+    -- it is at the own peer
     pub at_own : step.at ≡ p
     at_own = sym (parts step).is_at ∙ ap (peer_of step.driver.me) receives ∙ sound.numbered.drivers p step.driver step.is_driver
 
+    -- there is one call more
     longer : calls_len (record_of_state t) p ≡ suc (calls_len (record_of_state s) p)
     longer = ap length new.appends.here ∙ length-append (calls_of (record_of_state s) p) (new.call ∷ []) ∙ omega arith
 
@@ -105,9 +113,11 @@ module _ {o : Opening} {s : State} {p : ℕ} {c : Option Command} {t : State} (s
       | inr there ↦ absurd (there.0 (sym at_own))
     ]
 
+    -- the part that it is at is the own one
     pub own_peer : IsPeer s p step.peer
     own_peer = subst (λ r. IsPeer s r step.peer) at_own step.is_peer
 
+    -- nodes of the table before the receipt were held
     held_of_end : (l : Line) (n : Node) → Has (end_table o s p).lines l → l.node ≡ Some n → 1 ≤ held_in (ref_of n) step.peer.handles
     held_of_end l n there is = by (in_gap step.driver) refl
       where
@@ -117,6 +127,7 @@ module _ {o : Opening} {s : State} {p : ℕ} {c : Option Command} {t : State} (s
             let k = (table_before sound right p step.driver step.peer step.is_driver own_peer out).lines l there in
             line_held step.peer.given step.peer.handles k.0 l n (sound.rising step.at step.peer step.is_peer) (sound.numbers.numbered step.at step.peer step.is_peer) k.1 k.2 is
 
+    -- nodes of the table behind it are held
     held_behind : (x : PeerPart) (d : DriverPart) (l : Line) (n : Node) → IsPeer t p x → IsDriver t p d → Has (end_table o t p).lines l → l.node ≡ Some n → 1 ≤ held_in (ref_of n) x.handles
     held_behind x d l n is_peer is_driver there is = by (in_gap d) refl
       where
@@ -129,6 +140,7 @@ module _ {o : Opening} {s : State} {p : ℕ} {c : Option Command} {t : State} (s
             let k = (table_behind sound right step p d x is_driver is_peer out).lines l there in
             line_held x.given x.handles k.0 l n (after.rising p x is_peer) (after.numbers.numbered p x is_peer) k.1 k.2 is
 
+    -- so nodes of either are held
     pub new_held : (x : PeerPart) (d : DriverPart) (n : Node) → IsPeer t p x → IsDriver t p d → IsSeen o t p (calls_len (record_of_state s) p) n → 1 ≤ held_in (ref_of n) x.handles
     new_held x d n is_peer is_driver seen = elim seen.1 [
       | inl before ↦
@@ -149,6 +161,7 @@ module _ {o : Opening} {s : State} {p : ℕ} {c : Option Command} {t : State} (s
     ]
   ]
 
+  -- a step keeps it
   pub travels_kept : SeenTravels o t
   travels_kept = record {
     travels = λ q k x d one key n y is_peer is_driver at got seen is_owner alive. elim (receipt_cases q k one at) [

@@ -29,9 +29,11 @@ use Rattle.b1_inv_seen.proofs.Owes.{OwesNow, owes_released, owes_reaped, still_o
 module _ {o : Opening} {s : State} {p : ℕ} {c : Option Command} {t : State} (sound : IsSound o s) (step : Step o s p c t)
     (stamp q : ℕ) (x x_then : PeerPart) (d d_then : DriverPart) (node : NodeRef) (y y_then : PeerPart)
     (was : IsPeer s q x) (now : IsPeer t q x_then) (driver_was : IsDriver s q d) (driver_now : IsDriver t q d_then) (owner_was : IsPeer s node.owner y) (owner_now : IsPeer t node.owner y_then) (low : stamp ≤ x.clock) where
+  -- what is to be shown
   abbrev Then : Type 0
   Then = Travels stamp q x_then d_then y_then node
 
+  -- the owner's clock doesn't fall
   y_rises : y.clock ≤ y_then.clock
   y_rises = clocks_rise step node.owner y y_then owner_was owner_now
 
@@ -47,12 +49,15 @@ module _ {o : Opening} {s : State} {p : ℕ} {c : Option Command} {t : State} (s
       inr (inr (one, subst (λ e. Has e.owed one) (sym driver) there, is, holder ∙ sound.numbered.drivers p step.driver step.is_driver ∙ sym own, omega (arith, low, clock, same_clock)))
 
   module _ (at : q ≡ step.at) (new : x_then ≡ step.new_peer) where
+    -- the event's part is the holder's
     same : step.peer ≡ x
     same = same_Some step.peer x (sym step.is_peer ∙ ap (slice_get s.peers) (sym at) ∙ was)
 
+    -- the holder's part after the event
     x_event : (happens o step.local.memory (going step) (going_doing step) (going_action step) step.peer).1 ≡ x_then
     x_event = (parts step).is_peer ∙ sym new
 
+    -- where the event is at the holder, and it held the node
     held_here : 1 ≤ held_in node step.peer.handles → Then
     held_here some = by (held_then node o step.local.memory (going step) (going_doing step) step.peer (sound.rising step.at step.peer step.is_peer) (sound.numbers.numbered step.at step.peer step.is_peer) (going_action step) some)
       where
@@ -61,6 +66,7 @@ module _ {o : Opening} {s : State} {p : ℕ} {c : Option Command} {t : State} (s
         by (inl (inr dead)) = inr (inl (subst (λ z. 1 ≤ dead_amount node z.dead) x_event dead))
         by (inr (release, gone)) = owes_then (own_event act.Release release refl at) same (owes_released step node release gone)
 
+    -- and where it was to give references up
     dead_here : 1 ≤ dead_amount node step.peer.dead → Then
     dead_here some = by (dead_then node o step.local.memory (going step) (going_doing step) step.peer (sound.rising step.at step.peer step.is_peer) (sound.numbers.numbered step.at step.peer step.is_peer) (going_action step) some)
       where
@@ -68,18 +74,21 @@ module _ {o : Opening} {s : State} {p : ℕ} {c : Option Command} {t : State} (s
         by (inl dead) = inr (inl (subst (λ z. 1 ≤ dead_amount node z.dead) x_event dead))
         by (inr (reap, (item, rest, is, more))) = owes_then (own_event act.Reap reap refl at) same (owes_reaped step node item rest reap is more)
 
+  -- what was held
   held_stays : 1 ≤ held_in node x.handles → Then
   held_stays some = elim (peer_cases step q x_then now) [
     | inl here ↦ held_here here.0 here.1 (subst (λ z. 1 ≤ held_in node z.handles) (sym (same here.0 here.1)) some)
     | inr there ↦ inl (inr (subst (λ z. 1 ≤ held_in node z.handles) (same_Some x x_then (sym was ∙ there.1)) some))
   ]
 
+  -- what was to be given up
   dead_stays : 1 ≤ dead_amount node x.dead → Then
   dead_stays some = elim (peer_cases step q x_then now) [
     | inl here ↦ dead_here here.0 here.1 (subst (λ z. 1 ≤ dead_amount node z.dead) (sym (same here.0 here.1)) some)
     | inr there ↦ inr (inl (subst (λ z. 1 ≤ dead_amount node z.dead) (same_Some x x_then (sym was ∙ there.1)) some))
   ]
 
+  -- what was owed
   owed_stays : (one : OwedDrop) → Has d.owed one → same_ref one.node node ≡ true → one.holder ≡ q → stamp ≤ one.clock → Then
   owed_stays one there is holder high = elim (driver_cases step q d_then driver_now) [
     | inr other ↦ inr (inr (one, subst (λ e. Has e.owed one) (same_Some d d_then (sym driver_was ∙ other.1)) there, is, holder, high))

@@ -37,18 +37,22 @@ pub record LinesKept (old new : Handles) : Type 0 where
   pub stays : (h : HandleRecord) → Has old h → ((g : HandleRecord) × Has new g × SameLine h g) ⊎ (h.held ≡ 0)
   pub comes : (g : HandleRecord) → Has new g → ((h : HandleRecord) × Has old h × SameLine h g) ⊎ (g.number ≡ None)
 
+-- a record is as itself
 pub same_line : (h : HandleRecord) → SameLine h h
 same_line h = record { node = refl; number = refl; held = refl }
 
+-- records stay as they are
 pub lines_same : (hs : Handles) → LinesKept hs hs
 lines_same hs = record { stays = λ h there. inl (h, there, same_line h); comes = λ g there. inl (g, there, same_line g) }
 
+-- what other drivers leave
 pub lines_of_kept : (old new : Handles) → HandlesKept old new → LinesKept old new
 lines_of_kept old new k = record {
   stays = λ h there. elim (k.stays h there) [ inl (g, now, same) ↦ inl (g, now, record { node = same.node; number = same.number; held = same.held }) | inr gone ↦ inr gone ];
   comes = λ g there. elim (k.comes g there) [ inl (h, was, same) ↦ inl (h, was, record { node = same.node; number = same.number; held = same.held }) | inr new_one ↦ inr new_one.0.number ];
 }
 
+-- one change after another
 pub lines_trans : (old mid new : Handles) → LinesKept old mid → LinesKept mid new → LinesKept old new
 lines_trans old mid new one two = record {
   stays = λ h there. elim (one.stays h there) [
@@ -71,9 +75,7 @@ lines_trans old mid new one two = record {
 line_of : (h g : HandleRecord) (l : Line) → SameLine h g → IsLineOf h l → IsLineOf g l
 line_of h g l same is = (same.number ∙ is.0, same.held ∙ is.1, ap (λ n. is_ref n l.node) same.node ∙ is.2)
 
-back_of : (h g : HandleRecord) (l : Line) → SameLine h g → IsLineOf h l → IsLineOf g l
-back_of h g l same is = line_of h g l same is
-
+-- a table has the lines of the records then
 pub kept_table : (t : Table) (count : ℕ) (old new : Handles) → AreNumbered count old → LinesKept old new → IsTable t count old → IsTable t count new
 kept_table t count old new all kept k = record {
   given = k.given;
@@ -112,9 +114,11 @@ module _ (node : NodeRef) (f : HandleRecord → HandleRecord) (keeps : (h : Hand
       by false apart = inl ((found_has (λ h. same_ref h.node g.node) hs g (sym (other_changed node f keeps g.node apart hs) ∙ found)).0, apart)
       by true same = inr (own (record_of node hs) refl (sym (own_changed node f keeps hs up) ∙ ap (λ n. record_of n (changed node f hs)) (same_ref_is node g.node same) ∙ found))
 
+  -- another record stays
   pub other_stays : (g : HandleRecord) → Has hs g → same_ref node g.node ≡ false → Has (changed node f hs) g
   other_stays g there apart = (found_has (λ h. same_ref h.node g.node) (changed node f hs) g (other_changed node f keeps g.node apart hs ∙ record_found hs g up there)).0
 
+  -- the changed one stays where it is needed
   pub own_stays : (h : HandleRecord) → record_of node hs ≡ Some h → is_needed (f h) ≡ true → Has (changed node f hs) (f h)
   own_stays h found needed = (found_has (λ g. same_ref g.node node) (changed node f hs) (f h) (own_changed node f keeps hs up ∙ ap (kept_by f) found ∙ ap (λ b. cond b (Some (f h)) None) needed)).0
 

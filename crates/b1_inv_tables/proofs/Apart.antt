@@ -16,9 +16,11 @@ use Rattle.b1_step.specs.Rights.{Has}
 use Rattle.b1_inv_tables.proofs.Lines.{AreApart, has_line_of, raised_apart, added_apart, lowered_apart}
 use Rattle.b1_inv_tables.proofs.Slots.{OwnNumbers}
 
+-- no two lines of a table have one number
 abbrev TableApart : Table → Type 0
 TableApart t = AreApart t.lines
 
+-- after a received number
 received_apart : (n : ℕ) (x : Option Node) (t : Table) → TableApart t → TableApart (received n x t)
 received_apart n x t apart = by (is_given n) (has_line n t.lines) refl
   where
@@ -27,25 +29,30 @@ received_apart n x t apart = by (is_given n) (has_line n t.lines) refl
     by true false is = added_apart t.lines (record { number = n; node = x; held = 1 }) apart (λ g there same. let both : true ≡ false = sym (has_line_of n t.lines g there same) ∙ is in absurd (cc both))
     by false c is = apart
 
+-- after all numbers of a message
 received_all_apart : (slots : List (Option Node)) (ns : List ℕ) (t : Table) → TableApart t → TableApart (received_all slots ns t)
 received_all_apart slots [] t apart = apart
 received_all_apart [] (n ∷ ns) t apart = received_all_apart [] ns (received n None t) (received_apart n None t apart)
 received_all_apart (x ∷ slots) (n ∷ ns) t apart = received_all_apart slots ns (received n x t) (received_apart n x t apart)
 
+-- after a call
 changed_apart : (look : Key → List (Option Node)) (c : Command) (a : Answer) (t : Table) → TableApart t → TableApart (changed look c a t)
 changed_apart look c (ans.Got (rec.Message key number offset handles payload)) t apart = received_all_apart (look key) handles t apart
 changed_apart look c (ans.Reset stamp) t apart = tt
 changed_apart look (cmd.Release n) ans.Done t apart = lowered_apart n t.lines apart
 changed_apart look c a t apart = apart
 
+-- after some calls
 calls_apart : (look : Key → List (Option Node)) (t : Table) (calls : List Call) → TableApart t → TableApart (table_in look t calls)
 calls_apart look t [] apart = apart
 calls_apart look t (c ∷ calls) apart = calls_apart look (changed look c.command c.answer t) calls (changed_apart look c.command c.answer t apart)
 
+-- after a reference was handed
 handed_apart : (x : Option Node) (t : Table) → TableApart t → TableApart (handed x t)
 handed_apart None t apart = apart
 handed_apart (Some x) t apart = received_apart (given_number t.given (line_number x t.lines)) (Some x) t apart
 
+-- after some wires
 wires_apart : (all : List Wire) (ts : ℕ → Table) (ws : List Wire) → ((q : ℕ) → TableApart (ts q)) → (p : ℕ) → TableApart (wire_tables all ts ws p)
 wires_apart all ts [] each p = each p
 wires_apart all ts (w ∷ ws) each p =
@@ -55,6 +62,7 @@ wires_apart all ts (w ∷ ws) each p =
     by q true = handed_apart (named w.from (wired all w.from) (ts w.from) w.number) (ts q) (each q)
     by q false = each q
 
+-- before the first call
 pub start_apart : (ws : List Wire) (p : ℕ) → AreApart (start ws p).lines
 start_apart ws p = wires_apart ws (λ q. record { lines = []; given = 0 }) ws (λ q. tt) p
 
@@ -64,6 +72,7 @@ table_apart ws r p k = calls_apart (slots ws r p) (start ws p) (take k (calls_of
 
 -- ---- own numbers are no given ones
 
+-- numbers that are multiples of 4 are own ones
 pub own_numbers : (nodes : List NodePart) → ((n : NodePart) → Has nodes n → n.number % 4 ≡ 0) → OwnNumbers nodes
 own_numbers [] own serial = refl
 own_numbers (n ∷ rest) own zero = ap (λ m. m == 2) (own n (inl refl))

@@ -63,13 +63,16 @@ module _ (q : ℕ) (late : Node → Bool) (known : List Name) (dead : NodeRef �
 
   module _ (a : Arriving) (t : Table) (me : a.part.me ≡ q) (up : Rising a.part.handles) (all : AreNumbered a.part.given a.part.handles) (own : OwnNumbers a.part.nodes) (k : IsTable t a.part.given a.part.handles)
       (x : Node) (s : Slot) (nodes : List NodeRef) (slots : List Slot) (carried : List (Option Node)) where
+    -- the part after the first slot
     abbrev then_part : Arriving
     then_part = slot_arrives a (ref_of x, s)
 
     module _ (fills : AreFilled q (ref_of x ∷ nodes) (s ∷ slots)) (fly : InFlight q (ref_of x ∷ nodes) a.part.handles) (next : Next nodes slots carried) where
+      -- what the first slot leaves of the part
       rest : SameRest a.part then_part.part
       rest = slot_rest a (ref_of x) s
 
+      -- a foreign node of the first slot is in flight
       some_flight : x.owner ≢ q → 1 ≤ flight_in (ref_of x) a.part.handles
       some_flight apart =
           let low = fly (ref_of x) apart in
@@ -77,9 +80,11 @@ module _ (q : ℕ) (late : Node → Bool) (known : List Name) (dead : NodeRef �
           let one_time : cond {A = ℕ} (same_ref (ref_of x) (ref_of x)) 1 0 ≡ 1 = ap (λ c. cond c 1 0) (same_ref_itself (ref_of x)) in
           omega (arith, low, more, one_time)
 
+      -- the first slot arrives
       one : SlotComes q late known dead a then_part t s x
       one = slot_comes q late known dead a t x up all k s fills.0 own some_flight
 
+      -- the nodes of the slots behind are in flight
       left : InFlight q nodes then_part.part.handles
       left m apart =
           let low = fly m apart in
@@ -87,18 +92,21 @@ module _ (q : ℕ) (late : Node → Bool) (known : List Name) (dead : NodeRef �
           let f = slot_flight q a (ref_of x) s m me fills.0 apart up in
           omega (arith, low, more, f)
 
+      -- and their records are dead as before
       dead_left : DeadIs q dead (ref_of x ∷ nodes) a.part.handles → DeadIs q dead nodes then_part.part.handles
       dead_left is_dead m apart some =
           let more = times_cons m (ref_of x) nodes in
           let low = left m apart in
           slot_dead a (ref_of x) m s up (omega (arith, low, some)) ∙ is_dead m apart (omega (arith, more, some))
 
+      -- the first slot, then those behind it
       at_node : SlotsCome q late known dead a (fold slot_arrives then_part (zip nodes slots)) t (ref_of x ∷ nodes) (s ∷ slots) (Some x ∷ carried)
       at_node =
           comes_first a t x s nodes slots carried (fold slot_arrives then_part (zip nodes slots)) one
           (next then_part (received one.number (Some x) t) (rest.me ∙ me) (slot_rising a (ref_of x) s up) (slot_numbered a (ref_of x) s all) (subst OwnNumbers (sym rest.nodes) own) left one.table)
           (λ judged. subst (λ parts. AreJudged late known dead parts carried slots) (sym rest.nodes) judged) dead_left
 
+    -- the same, by the carried node
     of_ref : (m : NodeRef) → ref_of x ≡ m → AreFilled q (m ∷ nodes) (s ∷ slots) → InFlight q (m ∷ nodes) a.part.handles → Next nodes slots carried
         → SlotsCome q late known dead a (fold slot_arrives (slot_arrives a (m, s)) (zip nodes slots)) t (m ∷ nodes) (s ∷ slots) (Some x ∷ carried)
     of_ref m is fills fly next =

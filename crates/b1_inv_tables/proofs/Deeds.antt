@@ -50,12 +50,15 @@ module _ (look : Key → List (Option Node)) (w : Table) (command : Command) whe
   abbrev pub IsStill : Turn → Type 0
   IsStill to = (turn_table look command to w ≡ w) × (turn_gap command to ≡ false)
 
+  -- a quiet answer leaves the table
   pub quiet_ends : (got : Answer) → is_quiet (as_call command) got ≡ true → IsStill (Ends got)
   quiet_ends got is = (quiet_table look (as_call command) got w is, refl)
 
+  -- a refusal
   pub refused_still : (r : Reason) (place : Option ℕ) → IsStill (Ends (refused_at r place))
   refused_still r place = quiet_ends (refused_at r place) refl
 
+  -- a SEND attaches on
   still_attaching : (sending : Sending) (place slot : ℕ) → IsStill (Goes (attaching sending place slot))
   still_attaching sending place slot = by (nat_lt slot (length sending.begun.with)) (nat_lt 0 (length sending.begun.with) && is_place (accepted_from (place + 1) sending.places) sending.places) (accepted_from (place + 1) sending.places)
     where
@@ -64,6 +67,7 @@ module _ (look : Key → List (Option Node)) (w : Table) (command : Command) whe
       by false true next = (refl, refl)
       by false false next = (refl, refl)
 
+  -- a SEND without accepted places is refused
   still_all_refused : (places : List (Option Reason)) → IsStill (Ends (all_refused places))
   still_all_refused places = by (memory_place 0 places) (get_or places 0 None)
     where
@@ -72,6 +76,7 @@ module _ (look : Key → List (Option Node)) (w : Table) (command : Command) whe
       by None None = refused_still Invalid None
       by None (Some why) = refused_still why (Some 0)
 
+  -- a place was done
   still_staging : (begun : Begun) (places : List (Option Reason)) (collected : ℕ) → IsStill (staging begun places collected)
   still_staging begun places collected = by (nat_lt (length places) (length begun.to)) (is_place (accepted_from 0 places) places)
     where
@@ -80,9 +85,11 @@ module _ (look : Key → List (Option Node)) (w : Table) (command : Command) whe
       by false true = still_attaching (all_staged begun places collected) (accepted_from 0 places) 0
       by false false = still_all_refused places
 
+  -- a SEND takes back
   refused_goes : (begun : Begun) (places : List (Option Reason)) (refused : Refused) (place : ℕ) → IsStill (Goes (Unstaging begun places refused place))
   refused_goes begun places refused place = (quiet_table look (as_call command) (answer.Refused refused) w refl, refl)
 
+  -- it takes back from a place on
   still_unstaging : (begun : Begun) (places : List (Option Reason)) (refused : Refused) (place : ℕ) → IsStill (unstaging begun places refused place)
   still_unstaging begun places refused place = by (is_place place places)
     where
@@ -90,6 +97,7 @@ module _ (look : Key → List (Option Node)) (w : Table) (command : Command) whe
       by true = refused_goes begun places refused place
       by false = quiet_ends (answer.Refused refused) refl
 
+  -- a destination answered
   still_place : (begun : Begun) (places : List (Option Reason)) (collected : ℕ) (got : Result ℕ Reason) → IsStill (place_done command begun places collected got)
   still_place begun places collected (Ok clock) = still_staging begun (places ++ None ∷ []) (max collected clock)
   still_place begun places collected (Err r) = by (send_of command).go_on
@@ -98,12 +106,15 @@ module _ (look : Key → List (Option Node)) (w : Table) (command : Command) whe
       by true = still_staging begun (places ++ Some r ∷ []) collected
       by false = still_unstaging begun (places ++ Some r ∷ []) (record { reason = r; place = Some (length places) }) (accepted_from 0 (places ++ Some r ∷ []))
 
+  -- a SEND commits
   committing_still : (sending : Sending) (stamp place : ℕ) → IsStill (Goes (Committing sending stamp place))
   committing_still sending stamp place = (quiet_table look (as_call command) (answer.Sent (record { stamp = stamp; places = sending.places })) w refl, refl)
 
+  -- a SEND syncs
   syncing_still : (sending : Sending) (stamp place : ℕ) → IsStill (Goes (Syncing sending stamp place))
   syncing_still sending stamp place = (quiet_table look (as_call command) (answer.Sent (record { stamp = stamp; places = sending.places })) w refl, refl)
 
+  -- it syncs from a place on
   still_syncing : (sending : Sending) (stamp place : ℕ) → IsStill (Goes (syncing sending stamp place))
   still_syncing sending stamp place = by (is_place place sending.places)
     where
@@ -111,6 +122,7 @@ module _ (look : Key → List (Option Node)) (w : Table) (command : Command) whe
       by true = syncing_still sending stamp place
       by false = committing_still sending stamp (accepted_from 0 sending.places)
 
+  -- a destruction visits on
   pub still_visiting : (d : Destruction) (left : List ℕ) → IsStill (Goes (visiting d left))
   still_visiting d [] = (refl, refl)
   still_visiting d (peer ∷ rest) = (refl, refl)
@@ -119,9 +131,11 @@ module _ (look : Key → List (Option Node)) (w : Table) (command : Command) whe
   abbrev stamped_table : ℕ → Table
   stamped_table stamp = changed look (as_call command) (stamped_answer command stamp) w
 
+  -- a destruction with its stamp goes on
   abbrev pub IsStamped : ℕ → Turn → Type 0
   IsStamped stamp to = (turn_table look command to w ≡ stamped_table stamp) × (turn_gap command to ≡ is_flushing command)
 
+  -- it syncs from a place on
   stamped_notices : (d : Destruction) (stamp at : ℕ) → IsStamped stamp (Goes (syncing_notices d stamp at))
   stamped_notices d stamp at = by (nat_lt at (length d.staged))
     where
@@ -129,6 +143,7 @@ module _ (look : Key → List (Option Node)) (w : Table) (command : Command) whe
       by true = (refl, refl)
       by false = (refl, refl)
 
+  -- it commits from a place on
   stamped_commits : (d : Destruction) (stamp at : ℕ) → IsStamped stamp (committing_notices command d stamp at)
   stamped_commits d stamp at = by (nat_lt at (length d.staged)) (is_flushing command) refl
     where
@@ -176,6 +191,7 @@ module _ (look : Key → List (Option Node)) (w : Table) (command : Command) whe
       pub table : turn_table look command (turn_of phase owed action) w ≡ phase_table look command phase w
       pub gap : awaits_flush command phase ≡ true
 
+    -- one of these
     abbrev pub Deed : Phase → List OwedDrop → Action → Type 0
     Deed phase owed action = (Stays phase owed action ⊎ Empties phase owed action) ⊎ (Receives phase owed action ⊎ (Releases phase owed action ⊎ Flushes phase owed action))
 
@@ -183,14 +199,17 @@ module _ (look : Key → List (Option Node)) (w : Table) (command : Command) whe
     pub stays_open : (phase : Phase) (owed : List OwedDrop) (action : Action) → phase_table look command phase w ≡ w → awaits_flush command phase ≡ false → is_plain action ≡ true → IsStill (turn_of phase owed action) → Deed phase owed action
     stays_open phase owed action none out_of plain still = inl (inl (record { table = still.0 ∙ sym none; gap = still.1 ∙ sym out_of; plain = plain }))
 
+    -- in phases of a destruction with its stamp
     stays_stamped : (phase : Phase) (owed : List OwedDrop) (action : Action) (stamp : ℕ) → phase_table look command phase w ≡ stamped_table stamp → awaits_flush command phase ≡ is_flushing command → is_plain action ≡ true → IsStamped stamp (turn_of phase owed action) → Deed phase owed action
     stays_stamped phase owed action stamp same gap plain stamped = inl (inl (record { table = stamped.0 ∙ sym same; gap = stamped.1 ∙ sym gap; plain = plain }))
 
+    -- a drop
     pub dropped : (phase : Phase) (one : OwedDrop) (rest : List OwedDrop) → Deed phase (one ∷ rest) (act.DropRefs one.node.owner one.node.serial one.holder one.amount one.clock)
     dropped phase one rest = inl (inl (record { table = ap (λ to. turn_table look command to w) (drop_stays d.me command phase); gap = ap (turn_gap command) (drop_stays d.me command phase); plain = refl }))
 
     -- ---- a destruction gets its stamp
 
+    -- a reset's stamp
     stamp_empties : (dest : Destruction) → is_flushing command ≡ true → (stamp : ℕ) → (to : Turn) → turn_of (Dooming dest) [] act.StampDestroy ≡ to → IsStamped stamp to → Deed (Dooming dest) [] act.StampDestroy
     stamp_empties dest flushing stamp to at stamped = inl (inr (record {
       table = ap (λ z. turn_table look command z w) at ∙ stamped.0 ∙ ap (λ f. changed look (as_call command) (cond f (answer.Reset (Some stamp)) (answer.Destroyed stamp)) w) flushing;
@@ -198,6 +217,7 @@ module _ (look : Key → List (Option Node)) (w : Table) (command : Command) whe
       plain = refl;
     }))
 
+    -- the stamp of another destruction
     stamp_stays : (dest : Destruction) → is_flushing command ≡ false → (stamp : ℕ) → (to : Turn) → turn_of (Dooming dest) [] act.StampDestroy ≡ to → IsStamped stamp to → Deed (Dooming dest) [] act.StampDestroy
     stamp_stays dest not_flushing stamp to at stamped = inl (inl (record {
       table = ap (λ z. turn_table look command z w) at ∙ stamped.0 ∙ ap (λ f. changed look (as_call command) (cond f (answer.Reset (Some stamp)) (answer.Destroyed stamp)) w) not_flushing ∙ quiet_table look (as_call command) (answer.Destroyed stamp) w refl;
@@ -205,6 +225,7 @@ module _ (look : Key → List (Option Node)) (w : Table) (command : Command) whe
       plain = refl;
     }))
 
+    -- a stamp
     stamp_deed : (dest : Destruction) (stamp : ℕ) → turn_of (Dooming dest) [] act.StampDestroy ≡ Goes (syncing_notices dest stamp 0) → Deed (Dooming dest) [] act.StampDestroy
     stamp_deed dest stamp at = by (is_flushing command) refl
       where
@@ -212,6 +233,7 @@ module _ (look : Key → List (Option Node)) (w : Table) (command : Command) whe
         by true is = stamp_empties dest is stamp (Goes (syncing_notices dest stamp 0)) at (stamped_notices dest stamp 0)
         by false is = stamp_stays dest is stamp (Goes (syncing_notices dest stamp 0)) at (stamped_notices dest stamp 0)
 
+    -- a stamp, or holders that came late
     dooms : (dest : Destruction) → Deed (Dooming dest) [] act.StampDestroy
     dooms dest = by (doom_answer x dest.collected) refl
       where
@@ -219,6 +241,7 @@ module _ (look : Key → List (Option Node)) (w : Table) (command : Command) whe
         by (Ok stamp) is = stamp_deed dest stamp (ap (λ g. turn d.me command (Dooming dest) (out.StampDestroy g)) is)
         by (Err late) is = stays_open (Dooming dest) [] act.StampDestroy refl refl refl (subst IsStill (sym (ap (λ g. turn d.me command (Dooming dest) (out.StampDestroy g)) is)) (still_visiting dest late))
 
+    -- a stage
     stages : (begun : Begun) (places : List (Option Reason)) (collected : ℕ) (r : Option Reason) (user place serial : ℕ) (payload : List ℕ) (nodes : List NodeRef) → IsStill (turn d.me command (Staging begun places collected) (stage_by r memory d.me user place serial payload nodes x).0)
     stages begun places collected (Some r) user place serial payload nodes = still_place begun places collected (Err r)
     stages begun places collected None user place serial payload nodes = by memory

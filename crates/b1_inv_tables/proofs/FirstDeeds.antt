@@ -32,6 +32,7 @@ use Rattle.b1_inv_tables.proofs.Receives.{table_after}
 use Rattle.b1_inv_tables.proofs.Values.{turn_table, turn_gap}
 use Rattle.b1_inv_tables.proofs.Deeds.{IsStill, quiet_ends, refused_still, still_visiting, Deed, turn_of, stays_open, dropped, phase_deed}
 
+-- a local answer is quiet
 local_quiet : (shut : Bool) (command : Command) (x : PeerPart) → is_quiet (as_call command) (local_answer shut command x) ≡ true
 local_quiet true command x = refl
 local_quiet false (cmd.SliceRelease offset) x = by (is_received offset x.slices)
@@ -45,9 +46,11 @@ local_quiet false command x = refl
 
 module _ (look : Key → List (Option Node)) (w : Table) (o : Opening) (memory : Bool) (d : DriverPart) (x : PeerPart) where
   module _ (command : Command) where
+    -- a local command
     local_deed : Deed look w command o memory d x Starting [] act.Local
     local_deed = stays_open look w command o memory d x Starting [] act.Local refl refl refl (quiet_ends look w command (local_answer d.shut command x) (local_quiet d.shut command x))
 
+    -- a begin of a SEND leaves the table
     begins : (r : Option Reason) (c : SendCmd) → IsStill look w command (turn d.me command Starting (begin_by r memory c x).0)
     begins (Some r) c = refused_still look w command r None
     begins None c = by memory
@@ -56,9 +59,11 @@ module _ (look : Key → List (Option Node)) (w : Table) (o : Opening) (memory :
         by true = refused_still look w command Memory None
         by false = (refl, refl)
 
+    -- a begin of a SEND
     begin_deed : Deed look w command o memory d x Starting [] act.Begin
     begin_deed = stays_open look w command o memory d x Starting [] act.Begin refl refl refl (begins (send_refusal x (send_of command)) (send_of command))
 
+    -- a begin of a destruction
     destroy_deed : Deed look w command o memory d x Starting [] act.BeginDestroy
     destroy_deed = by (begin_refusal command x) (begin_serials command x) refl
       where
@@ -67,6 +72,7 @@ module _ (look : Key → List (Option Node)) (w : Table) (o : Opening) (memory :
         by None [] is = inl (inr (record { table = ap (λ z. turn_table look command z w) is; gap = ap (turn_gap command) is; plain = refl }))
         by None (serial ∷ rest) is = stays_open look w command o memory d x Starting [] act.BeginDestroy refl refl refl (subst (IsStill look w command) (sym is) (still_visiting look w command _ _))
 
+    -- a RECV
     receives : as_call command ≡ cmd.Recv → Deed look w command o memory d x Starting [] act.Recv
     receives listed = inr (inl (record { event = refl; table = by (received x).front; gap = refl }))
       where
@@ -74,6 +80,7 @@ module _ (look : Key → List (Option Node)) (w : Table) (o : Opening) (memory :
         by (Ok got) = ap (λ c. changed look c (answer.Got got) w) listed
         by (Err none) = quiet_table look (as_call command) (refused_at (Again none) None) w refl
 
+  -- a release
   release_deed : (number : ℕ) → Deed look w (cmd.Release number) o memory d x Starting [] act.Release
   release_deed number = inr (inr (inl (record { number = number; names = refl; event = refl; table = by (released x number); gap = refl })))
     where
@@ -81,6 +88,7 @@ module _ (look : Key → List (Option Node)) (w : Table) (o : Opening) (memory :
       by (Ok one) = refl
       by (Err r) = refl
 
+  -- the first event of any command
   first_deed : (shut : Bool) (command : Command) → Deed look w command o memory d x Starting [] (cond shut act.Local (first_action command))
   first_deed true command = local_deed command
   first_deed false cmd.Disconnect = destroy_deed cmd.Disconnect

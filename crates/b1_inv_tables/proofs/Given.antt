@@ -24,6 +24,7 @@ use Rattle.b1_inv_tables.proofs.Agrees.{IsTable, line_of_number, line_found, lin
 use Rattle.b1_inv_tables.proofs.References.{next_is_given, was_is_given, received_new, received_more}
 
 module _ (t : Table) (count : ℕ) (hs : Handles) (up : Rising hs) (all : AreNumbered count hs) (k : IsTable t count hs) (x : Node) where
+  -- the node as the machine has it
   abbrev node : NodeRef
   node = ref_of x
 
@@ -31,12 +32,15 @@ module _ (t : Table) (count : ℕ) (hs : Handles) (up : Rising hs) (all : AreNum
   abbrev was : HandleRecord
   was = record_or_none node hs
 
+  -- the change of the record
   abbrev give : HandleRecord → HandleRecord
   give = more_held (next_number count)
 
+  -- the records then
   abbrev new : Handles
   new = changed_or_made node give hs
 
+  -- the record is of the node
   was_node : was.node ≡ node
   was_node = by (record_of node hs) refl
     where
@@ -56,6 +60,7 @@ module _ (t : Table) (count : ℕ) (hs : Handles) (up : Rising hs) (all : AreNum
       by None at none = absurd (cc none)
       by (Some h) at some = (found_has (λ g. same_ref g.node node) hs h at).0
 
+  -- one without a number is not held
   was_unheld : was.number ≡ None → was.held ≡ 0
   was_unheld none = by (record_of node hs) refl none
     where
@@ -63,6 +68,7 @@ module _ (t : Table) (count : ℕ) (hs : Handles) (up : Rising hs) (all : AreNum
       by None at is = refl
       by (Some h) at is = all.unheld h (found_has (λ g. same_ref g.node node) hs h at).0 is
 
+  -- the record that is given is there
   gives : Has new (give was)
   gives = made_there node give (λ h. refl) hs up
 
@@ -77,9 +83,11 @@ module _ (t : Table) (count : ℕ) (hs : Handles) (up : Rising hs) (all : AreNum
         | inr same ↦ let both : true ≡ false = sym (same_ref_itself node) ∙ ap (same_ref node) (sym was_node ∙ sym (ap (λ z. z.node) same)) ∙ is in absurd (cc both)
       ]
 
+  -- another record stays
   old_stays : (g : HandleRecord) → Has hs g → same_ref node g.node ≡ false → Has new g
   old_stays g there apart = (found_has (λ h. same_ref h.node g.node) new g (other_made node give (λ h. refl) g.node apart hs ∙ record_found hs g up there)).0
 
+  -- another record is of another node
   other_node : (g : HandleRecord) → Has hs g → (g ≡ was → ⊥) → same_ref node g.node ≡ false
   other_node g there other = by (same_ref node g.node) refl
     where
@@ -90,9 +98,11 @@ module _ (t : Table) (count : ℕ) (hs : Handles) (up : Rising hs) (all : AreNum
   -- ---- under a new number
 
   module _ (none : was.number ≡ None) where
+    -- the line that comes
     abbrev new_line : Line
     new_line = record { number = next_number count; node = Some x; held = 1 }
 
+    -- the node had no line
     no_lines : line_number x t.lines ≡ None
     no_lines = line_number_none x t.lines (λ l there is.
         let f = k.lines l there in
@@ -101,15 +111,19 @@ module _ (t : Table) (count : ℕ) (hs : Handles) (up : Rising hs) (all : AreNum
         let number : Some l.number ≡ None = sym f.2.0 ∙ ap (λ z. z.number) (is_was f.0 f.1 same) ∙ none in
         absurd (cc number))
 
+    -- its number is new
     is_new : (l : Line) → Has t.lines l → l.number ≡ next_number count → ⊥
     is_new l there same = let g = line_given t count hs up all k l there in let low = g.1 in let is = g.2 in absurd (omega (arith, low, is, same))
 
+    -- it is the line of the record that is given
     new_of : IsLineOf (give was) new_line
     new_of = (ap (λ n. cond (n == 0) (Some (next_number count)) was.number) (was_unheld none), ap (λ n. n + 1) (was_unheld none), is_ref_of was.node (Some x) (ap Some (sym was_node)))
 
+    -- no other line is the record's
     other_record : (l : Line) (g : HandleRecord) → IsLineOf g l → g ≡ was → ⊥
     other_record l g of same = let both : Some l.number ≡ None = sym of.0 ∙ ap (λ z. z.number) same ∙ none in absurd (cc both)
 
+    -- the table with the line
     table_new : IsTable (record { lines = t.lines ++ new_line ∷ []; given = suc t.given }) (given_then count was.held) new
     table_new = record {
       given = let one : given_then count was.held ≡ count + 1 = ap (given_then count) (was_unheld none) in let two = k.given in omega (arith, one, two);
@@ -125,6 +139,7 @@ module _ (t : Table) (count : ℕ) (hs : Handles) (up : Rising hs) (all : AreNum
       ];
     }
 
+    -- the table after the node was handed
     given_new : IsTable (handed (Some x) t) (given_then count was.held) new
     given_new =
         let number : given_number t.given (line_number x t.lines) ≡ next_number count = ap (given_number t.given) no_lines ∙ ap next_number (sym k.given) in
@@ -133,26 +148,33 @@ module _ (t : Table) (count : ℕ) (hs : Handles) (up : Rising hs) (all : AreNum
   -- ---- under the number that it has
 
   module _ (n : ℕ) (is_n : was.number ≡ Some n) where
+    -- the record is there
     there : Has hs was
     there = was_there n is_n
 
+    -- it was held
     not_none : (was.held == 0) ≡ false
     not_none = ne_eqb was.held 0 (λ e. let some = (all.held was n there is_n).0 in absurd (omega (arith, some, e)))
 
+    -- its line is held once more
     more_of : (l : Line) → IsLineOf was l → IsLineOf (give was) (more l)
     more_of l of = (ap (λ b. cond b (Some (next_number count)) was.number) not_none ∙ of.0, (let one = of.1 in omega (arith, one)), of.2)
 
+    -- its line has its number
     number_of_line : (l : Line) → IsLineOf was l → l.number ≡ n
     number_of_line l of = let both : Some l.number ≡ Some n = sym of.0 ∙ is_n in cc both
 
+    -- a line with another number is not the record's
     other_number : (l : Line) (g : HandleRecord) → IsLineOf g l → (l.number ≡ n → ⊥) → g ≡ was → ⊥
     other_number l g of apart same = let both : Some l.number ≡ Some n = sym of.0 ∙ ap (λ z. z.number) same ∙ is_n in apart (cc both)
 
+    -- a record of another node has another number
     another : (g : HandleRecord) → Has hs g → same_ref node g.node ≡ false → g.number ≡ Some n → ⊥
     another g has apart is =
         let same : node ≡ g.node = sym was_node ∙ all.apart was g n there has is_n is in
         let both : true ≡ false = sym (same_ref_itself node) ∙ ap (same_ref node) same ∙ apart in absurd (cc both)
 
+    -- the table with the line held once more
     table_more : IsTable (record { lines = raised n t.lines; given = t.given }) (given_then count was.held) new
     table_more = record {
       given = ap (λ b. cond b (count + 1) count) not_none ∙ k.given;
@@ -167,6 +189,7 @@ module _ (t : Table) (count : ℕ) (hs : Handles) (up : Rising hs) (all : AreNum
       ];
     }
 
+    -- the table after the node was handed
     given_more : IsTable (handed (Some x) t) (given_then count was.held) new
     given_more =
         let f = k.records was n there is_n in

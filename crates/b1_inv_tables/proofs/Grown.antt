@@ -21,6 +21,7 @@ records_len (x ∷ xs) [] same = absurd (omega (arith, same))
 records_len (x ∷ xs) (d ∷ ds) same = ap suc (records_len xs ds (omega (arith, same)))
 
 module _ {o : Opening} {s : State} {p : ℕ} {c : Option Command} {t : State} (sound : IsSound o s) (step : Step o s p c t) where
+  -- the record after the step has more calls, at most
   pub extends : Extends (record_of_state s) (record_of_state t)
   extends = record {
     peers =
@@ -30,11 +31,14 @@ module _ {o : Opening} {s : State} {p : ℕ} {c : Option Command} {t : State} (s
   }
 
   module _ (legal : Legal o (record_of_state s)) where
+    -- what these calls change nothing of
     pub kept : Keeps (Found (record_of_state s)) (record_of_state s) (record_of_state t)
     kept = keeps_found o (record_of_state s) (record_of_state t) legal extends
 
+    -- a table before a call stays
     pub table_stays : (q k : ℕ) → k ≤ calls_len (record_of_state s) q → table o.wires (record_of_state t) q k ≡ table o.wires (record_of_state s) q k
     table_stays q k low = table_same o.wires (Found (record_of_state s)) (record_of_state s) (record_of_state t) kept q k low
 
+    -- a message stays
     pub message_stays : (stamp q : ℕ) (m : Message) → message o.wires (record_of_state s) stamp q ≡ Some m → message o.wires (record_of_state t) stamp q ≡ Some m
     message_stays stamp q m is = message_same o.wires (Found (record_of_state s)) (record_of_state s) (record_of_state t) kept stamp q (found_of_message o.wires (record_of_state s) stamp q m is) ∙ is

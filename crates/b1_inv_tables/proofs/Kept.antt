@@ -82,18 +82,23 @@ module _ {o : Opening} {s : State} (sound : IsSound o s) (right : IsRight o s) w
     records = λ h number there is. right.names.lines.records q number d x h is_driver is_peer none there is;
   }
 
+  -- a peer's records have numbers of their own
   pub numbered : (q : ℕ) (x : PeerPart) → IsPeer s q x → AreNumbered x.given x.handles
   numbered q x is_peer = sound.numbers.numbered q x is_peer
 
+  -- a peer's part has its number
   pub me_is : (q : ℕ) (x : PeerPart) → IsPeer s q x → x.me ≡ q
   me_is q x is_peer = (sound.numbered.peers q x is_peer).me
 
+  -- flights are counted
   pub flies : (q : ℕ) (x : PeerPart) → IsPeer s q x → Flies x
   flies q x is_peer node apart = sound.flights.counted q x node is_peer (λ same. apart (same ∙ sym (me_is q x is_peer)))
 
+  -- committed messages have their slots
   pub has_slots : (q : ℕ) (x : PeerPart) → IsPeer s q x → HasSlots x
   has_slots q x is_peer f there is_message even = subst (λ r. AreFilled r (carried f.1) (slots_of f.1)) (sym (me_is q x is_peer)) (sound.slots.filled q x f is_peer there is_message even)
 
+  -- nodes have own numbers
   pub own_numbered : (q : ℕ) (x : PeerPart) → IsPeer s q x → OwnNumbers x.nodes
   own_numbered q x is_peer = own_numbers x.nodes (sound.receipts.nodes q x is_peer).own
 
@@ -109,9 +114,11 @@ slots_of_call q k (ForeignNotice node index) m z is call = absurd call
 slots_of_call q k (ReleaseNotice serial) m z is call = absurd call
 
 module _ {o : Opening} {s : State} {p : ℕ} {c : Option Command} {t : State} (sound : IsSound o s) (right : IsRight o s) (step : Step o s p c t) where
+  -- the nodes of the slots of messages, by the record after the step
   abbrev look : Key → List (Option Node)
   look = slots o.wires (record_of_state t) p
 
+  -- the table behind the calls of the driver's list
   abbrev w : Table
   w = listed look (start o.wires p) step.driver
 
@@ -123,6 +130,7 @@ module _ {o : Opening} {s : State} {p : ℕ} {c : Option Command} {t : State} (s
 
   -- ---- the tables before and after, by the driver's part
 
+  -- the table at the end before
   old_end : (x : PeerPart) → IsPeer s p x → value look (start o.wires p) step.driver ≡ end_table o s p
   old_end x is_peer =
       let calls : calls_of (record_of_state s) p ≡ driver_calls step.driver = recorded_calls s p x step.driver is_peer step.is_driver in
@@ -131,15 +139,18 @@ module _ {o : Opening} {s : State} {p : ℕ} {c : Option Command} {t : State} (s
       in
       sym (value_is look (start o.wires p) step.driver) ∙ ap (table_in look (start o.wires p)) (sym taken) ∙ table_stays sound step right.legal p (calls_len (record_of_state s) p) (omega arith)
 
+  -- the table at the end after
   new_end : (y : PeerPart) → IsPeer t p y → value look (start o.wires p) step.new_driver ≡ end_table o t p
   new_end y is_peer =
       let calls : calls_of (record_of_state t) p ≡ driver_calls step.new_driver = recorded_calls t p y step.new_driver is_peer (own_driver step) in
       sym (value_is look (start o.wires p) step.new_driver) ∙ ap (table_in look (start o.wires p)) (sym (take-end (calls_of (record_of_state t) p) ∙ calls))
 
   module _ (x y : PeerPart) (was : IsPeer s p x) (now : IsPeer t p y) where
+    -- the table before, by the phase
     phase_is : phase_table look (parts step).command (parts step).phase w ≡ end_table o s p
     phase_is = sym (value_before look (start o.wires p) step) ∙ old_end x was
 
+    -- the table after, by the turn
     turn_is : turn_table look (parts step).command (turn step.driver.me (parts step).command (parts step).phase (going_answer step)) w ≡ end_table o t p
     turn_is = sym (value_behind look (start o.wires p) step) ∙ new_end y now
 
@@ -147,15 +158,19 @@ module _ {o : Opening} {s : State} {p : ℕ} {c : Option Command} {t : State} (s
     abbrev After : Type 0
     After = (y.given ≡ (end_table o t p).given) × (in_gap step.new_driver ≡ false → IsTable (end_table o t p) y.given y.handles)
 
+    -- as many numbers were given
     before_given : x.given ≡ (end_table o s p).given
     before_given = right.names.lines.given p x was
 
+    -- out of a gap by the phase
     old_gap : awaits_flush (parts step).command (parts step).phase ≡ false → in_gap step.driver ≡ false
     old_gap none = gap_before step ∙ none
 
+    -- the table before has the lines of the records
     table_now : in_gap step.driver ≡ false → IsTable (end_table o s p) x.given x.handles
     table_now none = table_before sound right p step.driver x step.is_driver was none
 
+    -- where the table stays
     stays : Stays look w (parts step).command o step.local.memory step.driver step.peer (parts step).phase step.driver.owed (going_action step) → SameTable x y → After
     stays k same =
         let tables : end_table o t p ≡ end_table o s p = sym turn_is ∙ k.table ∙ phase_is in
@@ -165,6 +180,7 @@ module _ {o : Opening} {s : State} {p : ℕ} {c : Option Command} {t : State} (s
               (kept_table (end_table o s p) x.given x.handles y.handles (numbered sound right p x was) same.1 (table_now (sym gaps ∙ none)))),
         )
 
+    -- where a reset empties it
     empties : Empties look w (parts step).command o step.local.memory step.driver step.peer (parts step).phase step.driver.owed (going_action step) → SameTable x y → After
     empties k same =
         let tables : end_table o t p ≡ emptied (end_table o s p) = sym turn_is ∙ k.table ∙ ap emptied phase_is in
@@ -173,9 +189,11 @@ module _ {o : Opening} {s : State} {p : ℕ} {c : Option Command} {t : State} (s
           λ none. let both : true ≡ false = sym gap ∙ none in absurd (cc both),
         )
 
+    -- the part after an event
     abbrev event : PeerPart → Action → PeerPart
     event z action = (happens o step.local.memory (going step) (going_doing step) action z).1
 
+    -- after a RECV
     receives : Receives look w (parts step).command o step.local.memory step.driver step.peer (parts step).phase step.driver.owed (going_action step) → step.peer ≡ x → y ≡ event x act.Recv → After
     receives k at is =
         let tables : end_table o t p ≡ table_after look (received x).front (end_table o s p) = sym turn_is ∙ k.table ∙ ap (λ u. table_after look (received step.peer).front u) phase_is ∙ ap (λ z. table_after look (received z).front (end_table o s p)) at in
@@ -183,6 +201,7 @@ module _ {o : Opening} {s : State} {p : ℕ} {c : Option Command} {t : State} (s
         (recv_table x (sound.rising p x was) (numbered sound right p x was) (flies sound right p x was) (has_slots sound right p x was) (own_numbered sound right p x was) (end_table o s p) (table_now (old_gap k.gap)) look (looks x was))) in
         (table.given, λ none. table)
 
+    -- after a release
     releases : (k : Releases look w (parts step).command o step.local.memory step.driver step.peer (parts step).phase step.driver.owed (going_action step)) → step.peer ≡ x → y ≡ event x act.Release → After
     releases k at is = by (is_given k.number) (held_node k.number x.handles) refl tables parts_is
       where
@@ -209,6 +228,7 @@ module _ {o : Opening} {s : State} {p : ℕ} {c : Option Command} {t : State} (s
             (release_table (end_table o s p) x.given x.handles (sound.rising p x was) (numbered sound right p x was) (table_now (old_gap k.gap)) k.number node found)) in
             (table.given, λ none. table)
 
+    -- after a flush
     flushes : Flushes look w (parts step).command o step.local.memory step.driver step.peer (parts step).phase step.driver.owed (going_action step) → y ≡ event x act.Flush → After
     flushes k is =
         let tables : end_table o t p ≡ end_table o s p = sym turn_is ∙ k.table ∙ phase_is in
@@ -224,12 +244,14 @@ module _ {o : Opening} {s : State} {p : ℕ} {c : Option Command} {t : State} (s
     at_own action is own (inr (apart, there)) =
         absurd (apart (sym (sound.numbered.drivers p step.driver step.is_driver) ∙ sym own ∙ ap (peer_of step.driver.me) (sym is) ∙ (parts step).is_at))
 
+    -- what a plain event leaves of the own part
     plain_own : is_plain (going_action step) ≡ true → ((p ≡ step.at) × (y ≡ step.new_peer)) ⊎ ((p ≢ step.at) × IsPeer s p y) → SameTable x y
     plain_own plain (inl (at, new)) =
         let same : step.peer ≡ x = same_Some step.peer x (sym step.is_peer ∙ ap (slice_get s.peers) (sym at) ∙ was) in
         subst (λ z. SameTable z y) same (subst (SameTable step.peer) ((parts step).is_peer ∙ sym new) (plain_event o step.local.memory (going step) (going_doing step) step.peer (going_action step) plain))
     plain_own plain (inr (apart, there)) = subst (λ z. SameTable x z) (same_Some x y (sym was ∙ there)) (same_table x)
 
+    -- the own table after any event
     pub own_after : After
     own_after = by (deed look w o step.local.memory step.driver step.peer (parts step).command (parts step).phase step.driver.owed)
       where

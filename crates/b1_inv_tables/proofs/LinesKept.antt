@@ -41,11 +41,13 @@ module _ {o : Opening} {s : State} {p : ℕ} {c : Option Command} {t : State} (s
 
   -- the peer of another driver: its table stays, and its records as a table sees them
   module _ (q : ℕ) (apart : q ≢ p) (d : DriverPart) (x y : PeerPart) (is_driver : IsDriver s q d) (also : IsDriver t q d) (was : IsPeer s q x) (now : IsPeer t q y) where
+    -- its table stays
     pub other_end : end_table o t q ≡ end_table o s q
     other_end =
         let calls : calls_of (record_of_state t) q ≡ calls_of (record_of_state s) q = recorded_calls t q y d now also ∙ sym (recorded_calls s q x d was is_driver) in
         ap (λ cs. table o.wires (record_of_state t) q (length cs)) calls ∙ table_stays sound step right.legal q (calls_len (record_of_state s) q) (omega arith)
 
+    -- an event there is one that may be elsewhere
     elsewhere : step.at ≡ q → may_be_elsewhere (going_action step) ≡ true
     elsewhere at = by (may_be_elsewhere step.action) refl
       where
@@ -56,6 +58,7 @@ module _ {o : Opening} {s : State} {p : ℕ} {c : Option Command} {t : State} (s
         by true is = same ∙ is
         by false is = absurd (apart (sym at ∙ own_place step is ∙ sound.numbered.drivers p step.driver step.is_driver))
 
+    -- its records stay as a table sees them
     pub other_same : SameTable x y
     other_same = elim (peer_cases step q y now) [
       | inl here ↦
@@ -65,14 +68,17 @@ module _ {o : Opening} {s : State} {p : ℕ} {c : Option Command} {t : State} (s
       | inr there ↦ let both : Some x ≡ Some y = sym was ∙ there.1 in let same : x ≡ y = cc both in subst (SameTable x) same (same_table x)
     ]
 
+    -- as many numbers were given
     pub other_given : y.given ≡ (end_table o t q).given
     other_given = other_same.0 ∙ right.names.lines.given q x was ∙ ap (λ z. z.given) (sym other_end)
 
+    -- its table has the lines of its records
     pub other_table : in_gap d ≡ false → IsTable (end_table o t q) y.given y.handles
     other_table none =
         subst (λ u. IsTable u y.given y.handles) (sym other_end) (subst (λ g. IsTable (end_table o s q) g y.handles) (sym other_same.0)
         (kept_table (end_table o s q) x.given x.handles y.handles (numbered sound right q x was) other_same.1 (table_before sound right q d x is_driver was none)))
 
+  -- as many numbers were given as each peer's table says
   given_after : (q : ℕ) (y : PeerPart) → IsPeer t q y → y.given ≡ (end_table o t q).given
   given_after q y now = by (driver_there q y now)
     where
@@ -89,6 +95,7 @@ module _ {o : Opening} {s : State} {p : ℕ} {c : Option Command} {t : State} (s
     | inr other ↦ other_table q other.0 d (part_before q y now).0 y other.1 is_driver (part_before q y now).1 now none
   ]
 
+  -- a step keeps it
   pub lines_kept : TableIsLines o t
   lines_kept = record {
     given = given_after;

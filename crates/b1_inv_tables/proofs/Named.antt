@@ -18,6 +18,7 @@ use Rattle.b1_inv_tables.proofs.Agrees.{IsTable}
 
 -- ---- given numbers
 
+-- the node of the line with a number
 line_node_of : (n : ℕ) (ls : Lines) (l : Line) → AreApart ls → Has ls l → l.number ≡ n → line_node n ls ≡ l.node
 line_node_of n [] l apart there is = absurd there
 line_node_of n (k ∷ rest) l apart there is = by (n == k.number) refl there (λ h. line_node_of n rest l apart.1 h is)
@@ -28,10 +29,12 @@ line_node_of n (k ∷ rest) l apart there is = by (n == k.number) refl there (λ
     by false at (inl same) next = absurd (eqb-false n k.number at (sym is ∙ ap (λ z. z.number) same))
     by false at (inr h) next = next h
 
+-- no line has the number
 line_node_none : (n : ℕ) (ls : Lines) → ((l : Line) → Has ls l → l.number ≡ n → ⊥) → line_node n ls ≡ None
 line_node_none n [] none = refl
 line_node_none n (k ∷ rest) none = rw (ne_eqb n k.number (λ e. none k (inl refl) (sym e))) (line_node_none n rest (λ l there is. none l (inr there) is))
 
+-- a given number names what the record with it is of
 pub line_is : (t : Table) (count : ℕ) (hs : Handles) → IsTable t count hs → (number : ℕ) → option_map ref_of (line_node number t.lines) ≡ held_node number hs
 line_is t count hs k number = by (find (is_number number) hs) refl
   where
@@ -50,6 +53,7 @@ line_is t count hs k number = by (find (is_number number) hs) refl
 
 -- ---- own numbers
 
+-- an own number, from a place on
 own_from : (p i number : ℕ) (nodes : List NodePart) (known : List Name) (more : List ℕ) → node_numbers nodes ++ more ≡ name_numbers known → position_or_len (λ n. n.number == number) nodes < length nodes
     → option_map ref_of (node_from p i number known) ≡ Some (record { owner = p; serial = i + position_or_len (λ n. n.number == number) nodes })
 own_from p i number [] known more same within = absurd (omega (arith, within))
@@ -74,6 +78,7 @@ own_from p i number (n ∷ rest) (m ∷ names) more same within = by (n.number =
         ap (λ b. option_map ref_of (cond b (Some (record { owner = p; serial = i; epoch = m.epoch })) (node_from p (suc i) number names))) (ne_eqb number m.number (λ e. eqb-false n.number number is (first_same ∙ sym e)))
         ∙ next (omega (arith, low)) ∙ ap (λ z. Some (record { owner = p; serial = z })) moved
 
+-- an own number names the node at its place
 pub own_is : (p number serial : ℕ) (nodes : List NodePart) (known : List Name) (more : List ℕ) → node_numbers nodes ++ more ≡ name_numbers known → serial_of number nodes ≡ Some serial → option_map ref_of (own_node p known number) ≡ Some (record { owner = p; serial = serial })
 own_is p number serial nodes known more same found =
     let f = found_at (λ n. n.number == number) nodes serial found in
@@ -82,6 +87,7 @@ own_is p number serial nodes known more same found =
 
 -- ---- any number, where an own one has its node at the part
 
+-- a number names the same
 pub named_is : (p number : ℕ) (x : PeerPart) (known : List Name) (more : List ℕ) (t : Table) → x.me ≡ p → node_numbers x.nodes ++ more ≡ name_numbers known → IsTable t x.given x.handles → (is_own number ≡ true → (serial : ℕ) × (serial_of number x.nodes ≡ Some serial))
     → option_map ref_of (named p known t number) ≡ node_named x number
 named_is p number x known more t me same k made = by (is_own number) refl

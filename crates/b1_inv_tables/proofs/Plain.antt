@@ -16,16 +16,20 @@ use Rattle.b1_inv_tables.proofs.Deeds.{is_plain}
 abbrev pub SameTable : PeerPart → PeerPart → Type 0
 SameTable x y = (y.given ≡ x.given) × LinesKept x.handles y.handles
 
+-- a part is as itself
 pub same_table : (x : PeerPart) → SameTable x x
 same_table x = (refl, lines_same x.handles)
 
 module _ (o : Opening) (memory : Bool) (d : DriverPart) (doing : Doing) (x : PeerPart) where
+  -- an event that may be at another peer
   pub other_event : (action : Action) → may_be_elsewhere action ≡ true → SameTable x (happens o memory d doing action x).1
   other_event action is = let k = keeps o memory d doing action x is in (k.given, lines_of_kept x.handles (happens o memory d doing action x).1.handles k.handles)
 
+  -- an event that leaves records and given numbers
   by_fields : (action : Action) → (happens o memory d doing action x).1.given ≡ x.given → (happens o memory d doing action x).1.handles ≡ x.handles → SameTable x (happens o memory d doing action x).1
   by_fields action given handles = (given, subst (LinesKept x.handles) (sym handles) (lines_same x.handles))
 
+  -- every plain event
   pub plain_event : (action : Action) → is_plain action ≡ true → SameTable x (happens o memory d doing action x).1
   plain_event act.Recv is = absurd (cc is)
   plain_event act.Release is = absurd (cc is)

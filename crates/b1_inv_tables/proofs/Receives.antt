@@ -35,12 +35,14 @@ use Rattle.b1_inv_tables.proofs.Arrives.{SlotsCome, slots_come}
 
 -- ---- the removals
 
+-- a removal
 discard_lines : (e : Entry) (x : PeerPart) → Rising x.handles → LinesKept x.handles (discarded x e).handles
 discard_lines (Message origin user index serial offset len nodes slots handles payload) x up = lines_of_kept x.handles (unexpected (foreign x.me nodes) x.handles) (kept_unexpected (foreign x.me nodes) x.handles)
 discard_lines (OwnNotice serial index) x up = lines_same x.handles
 discard_lines (ForeignNotice node index) x up = same_kept node made_dead (λ h. refl) x.handles up (λ h. record { node = refl; number = refl; held = refl })
 discard_lines (ReleaseNotice serial) x up = lines_same x.handles
 
+-- all removals
 discards_lines : (es : Items) (x : PeerPart) → Rising x.handles → LinesKept x.handles (fold (λ y f. discarded y f.1) x es).handles
 discards_lines [] x up = lines_same x.handles
 discards_lines (f ∷ rest) x up =
@@ -51,6 +53,7 @@ discards_lines (f ∷ rest) x up =
 pub cleared_lines : (x : PeerPart) → Rising x.handles → LinesKept x.handles (cleared x).handles
 cleared_lines x up = discards_lines (discards x) (record x { queue = drop (length (discards x)) x.queue }) up
 
+-- the removals leave numbers
 pub cleared_numbered : (x : PeerPart) → AreNumbered x.given x.handles → AreNumbered (cleared x).given (cleared x).handles
 cleared_numbered x all = at_discards AreNumbered (λ m. ⊤) numbers_closed (discards x) (record x { queue = drop (length (discards x)) x.queue }) all
 
@@ -66,12 +69,15 @@ table_after look (Ok receipt) t = table_changed look cmd.Recv (ans.Got receipt) 
 table_after look (Err front) t = t
 
 module _ (x : PeerPart) (up : Rising x.handles) (all : AreNumbered x.given x.handles) (flies : Flies x) (filled : HasSlots x) (own : OwnNumbers x.nodes) (t : Table) (k : IsTable t x.given x.handles) where
+  -- what the removals leave
   clear : Cleared x
   clear = is_cleared x up
 
+  -- the table has the lines of the records then
   pub cleared_table : IsTable t (cleared x).given (cleared x).handles
   cleared_table = subst (λ g. IsTable t g (cleared x).handles) (sym clear.given) (kept_table t x.given x.handles (cleared x).handles all (cleared_lines x up) k)
 
+  -- nodes have own numbers then
   own_cleared : OwnNumbers (cleared x).nodes
   own_cleared = subst OwnNumbers (sym clear.nodes) own
 
@@ -94,6 +100,7 @@ module _ (x : PeerPart) (up : Rising x.handles) (all : AreNumbered x.given x.han
       (front_flies key (Message origin user index serial offset len nodes slots handles payload) rest queue) same cleared_table
 
   module _ (look : Key → List (Option Node)) (looks : Looks look x.queue) where
+    -- the front is taken
     taken_table : (key : Key) (e : Entry) (rest : Items) → (cleared x).queue ≡ (key, e) ∷ rest → (is_data e ≡ true → AreFilled x.me (carried e) (slots_of e) × (map (option_map ref_of) (look key) ≡ map Some (carried e)))
         → IsTable (table_after look (Ok (taken_entry (record (cleared x) { queue = rest }) key e).0) t) (taken_entry (record (cleared x) { queue = rest }) key e).1.given (taken_entry (record (cleared x) { queue = rest }) key e).1.handles
     taken_table key (Message origin user index serial offset len nodes slots handles payload) rest queue is_message =
@@ -105,6 +112,7 @@ module _ (x : PeerPart) (up : Rising x.handles) (all : AreNumbered x.given x.han
         (same_kept node made_dead (λ h. refl) (cleared x).handles clear.rising (λ h. record { node = refl; number = refl; held = refl })) cleared_table
     taken_table key (ReleaseNotice serial) rest queue is_message = cleared_table
 
+    -- the front is taken, where it is committed
     front_table : (b : Bool) (f : Key × Entry) (rest : Items) → is_staged f ≡ b → (cleared x).queue ≡ f ∷ rest
         → IsTable (table_after look (front_by b (cleared x) f rest).0 t) (front_by b (cleared x) f rest).1.given (front_by b (cleared x) f rest).1.handles
     front_table true f rest is queue = cleared_table
@@ -113,6 +121,7 @@ module _ (x : PeerPart) (up : Rising x.handles) (all : AreNumbered x.given x.han
         there : Has x.queue f
         there = subst (λ l. Has l f) (sym (queue_parts x)) (has_right (discards x) (cleared x).queue f (subst (λ l. Has l f) (sym queue) (inl refl)))
 
+    -- the front is taken, if there is one
     by_queue : (queue : Items) → (cleared x).queue ≡ queue → IsTable (table_after look (front_taken (cleared x) queue).0 t) (front_taken (cleared x) queue).1.given (front_taken (cleared x) queue).1.handles
     by_queue [] is = cleared_table
     by_queue (f ∷ rest) is = front_table (is_staged f) f rest refl is

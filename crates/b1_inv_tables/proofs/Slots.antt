@@ -27,6 +27,7 @@ use Rattle.b1_inv_tables.proofs.References.{come_table, number_of_slot}
 
 -- ---- a record in flight
 
+-- a node in flight has a record
 pub in_flight : (node : NodeRef) (hs : Handles) → 1 ≤ flight_in node hs → (h : HandleRecord) × (record_of node hs ≡ Some h)
 in_flight node hs flies = by (record_of node hs) refl flies
   where
@@ -53,6 +54,7 @@ dead_changed node other f keeps same hs up flies = by (same_ref node other) refl
         let found : record_of other (changed node f hs) ≡ kept_by f (record_of other hs) = subst (λ n. record_of n (changed node f hs) ≡ kept_by f (record_of n hs)) (same_ref_is node other is) (own_changed node f keeps hs up) in
         ap (λ r. (or_none other r).dead) found ∙ own (record_of other hs) (subst (λ r. 1 ≤ (or_none other r).flight) found flies)
 
+-- whether a record in flight is dead stays where one slot fewer carries a node
 dead_unexpected : (me : ℕ) (node other : NodeRef) (hs : Handles) → Rising hs → 1 ≤ flight_in other (unexpected (foreign me (node ∷ [])) hs) → (record_or_none other (unexpected (foreign me (node ∷ [])) hs)).dead ≡ (record_or_none other hs).dead
 dead_unexpected me node other hs up = by (not (node.owner == me))
   where
@@ -73,13 +75,16 @@ slot_dead a node other slot.Attached up flies = by (record_or_none node a.part.h
 
 -- ---- numbers stay apart
 
+-- numbers stay apart where one slot fewer carries a node
 numbers_less_flight : (count : ℕ) (node : NodeRef) (hs : Handles) → AreNumbered count hs → AreNumbered count (changed node less_flight hs)
 numbers_less_flight count node hs all = numbers_same count node less_flight (λ h. refl) (λ h. refl) (λ h. refl) hs all
 
+-- and where fewer slots carry nodes
 numbers_unexpected : (count : ℕ) (nodes : List NodeRef) (hs : Handles) → AreNumbered count hs → AreNumbered count (unexpected nodes hs)
 numbers_unexpected count [] hs all = all
 numbers_unexpected count (node ∷ rest) hs all = numbers_unexpected count rest (changed node less_flight hs) (numbers_less_flight count node hs all)
 
+-- numbers stay apart where a slot arrives
 pub slot_numbered : (a : Arriving) (node : NodeRef) (s : Slot) → AreNumbered a.part.given a.part.handles → AreNumbered (slot_arrives a (node, s)).part.given (slot_arrives a (node, s)).part.handles
 slot_numbered a node slot.Unattached all = numbers_unexpected a.part.given (foreign a.part.me (node ∷ [])) a.part.handles all
 slot_numbered a node slot.Void all = numbers_unexpected a.part.given (foreign a.part.me (node ∷ [])) a.part.handles all
@@ -111,6 +116,7 @@ pub record SlotComes (q : ℕ) (late : Node → Bool) (known : List Name) (dead 
   pub judged : IsJudged late known dead a.part.nodes s x → (x.owner ≢ q → (record_or_none (ref_of x) a.part.handles).dead ≡ dead (ref_of x)) → number ≡ arrives late q known t (Some x)
 
 module _ (q : ℕ) (late : Node → Bool) (known : List Name) (dead : NodeRef → Bool) (a : Arriving) (t : Table) (x : Node) (up : Rising a.part.handles) (all : AreNumbered a.part.given a.part.handles) (k : IsTable t a.part.given a.part.handles) where
+  -- a late node arrives as nothing
   is_late : (b : Bool) → late x ≡ true → invalid ≡ cond (late x) invalid (handle_number q known t x)
   is_late b is = rw is refl
 
@@ -118,6 +124,7 @@ module _ (q : ℕ) (late : Node → Bool) (known : List Name) (dead : NodeRef �
   nothing : (handles : Handles) → LinesKept a.part.handles handles → IsTable (received invalid (Some x) t) a.part.given handles
   nothing handles kept = kept_table t a.part.given a.part.handles handles all kept k
 
+  -- a void slot
   slot_void : SlotComes q late known dead a (slot_arrives a (ref_of x, slot.Void)) t slot.Void x
   slot_void = record {
     number = invalid;
@@ -127,17 +134,21 @@ module _ (q : ℕ) (late : Node → Bool) (known : List Name) (dead : NodeRef �
   }
 
   module _ (own : OwnNumbers a.part.nodes) (mine : x.owner ≡ q) where
+    -- the own node
     abbrev node : NodePart
     node = get_or a.part.nodes x.serial no_node
 
+    -- its number is no given one
     own_number : (b : Bool) → is_given (cond b invalid node.number) ≡ false
     own_number true = refl
     own_number false = own x.serial
 
+    -- the number by which the record hands it
     own_arrives : (b : Bool) → late x ≡ b → (late x ≡ false → number_at known x.serial ≡ Some node.number) → cond b invalid node.number ≡ arrives late q known t (Some x)
     own_arrives true is number = is_late true is
     own_arrives false is number = rw (is, eq-eqb x.owner q mine, number is) refl
 
+    -- an own slot
     slot_own : SlotComes q late known dead a (slot_arrives a (ref_of x, slot.Own)) t slot.Own x
     slot_own = record {
       number = cond node.taken invalid node.number;
@@ -147,12 +158,15 @@ module _ (q : ℕ) (late : Node → Bool) (known : List Name) (dead : NodeRef �
     }
 
   module _ (apart : x.owner ≢ q) (flies : 1 ≤ flight_in (ref_of x) a.part.handles) where
+    -- the record of the node
     found : (h : HandleRecord) × (record_of (ref_of x) a.part.handles ≡ Some h)
     found = in_flight (ref_of x) a.part.handles flies
 
+    -- it is what is found
     is_record : record_or_none (ref_of x) a.part.handles ≡ found.0
     is_record = ap (or_none (ref_of x)) found.1
 
+    -- a reference to a node whose record is dead
     dead_reference : (record_or_none (ref_of x) a.part.handles).dead ≡ true → SlotComes q late known dead a (reference_by true a (ref_of x)) t slot.Attached x
     dead_reference is = record {
       number = invalid;
@@ -161,6 +175,7 @@ module _ (q : ℕ) (late : Node → Bool) (known : List Name) (dead : NodeRef �
       judged = λ judged same. is_late true (judged ∙ sym (same apart) ∙ is);
     }
 
+    -- a reference to another node
     live_reference : (record_or_none (ref_of x) a.part.handles).dead ≡ false → SlotComes q late known dead a (reference_by false a (ref_of x)) t slot.Attached x
     live_reference is = record {
       number = unwrap_or (record_or_none (ref_of x) a.part.handles).number (next_number a.part.given);
@@ -175,6 +190,7 @@ module _ (q : ℕ) (late : Node → Bool) (known : List Name) (dead : NodeRef �
         arrives_number : late x ≡ false → arrives late q known t (Some x) ≡ given_number t.given (line_number x t.lines)
         arrives_number on_time = rw (on_time, ne_eqb x.owner q apart) refl
 
+    -- a reference
     slot_attached : SlotComes q late known dead a (slot_arrives a (ref_of x, slot.Attached)) t slot.Attached x
     slot_attached = by (record_or_none (ref_of x) a.part.handles).dead refl
       where
