@@ -155,6 +155,7 @@ impl<Q: QueueKind, P: PoolKind> Core<Q, P> {
         ensures legal { Legal self.now.opening (record_of_state self.now.state) }
         ensures promises { StepsKeepPromises self.now.opening self.now.state }
     {
+        let _ = &self.opening;
         every_reached_record_is_legal();
         every_step_keeps_promises();
     }
