@@ -1,0 +1,3 @@
+pub mod After
+pub mod Once
+pub mod Visits
