@@ -1,17 +1,15 @@
 -- An AWAIT that found a front has it among its driver's facts, and there it stands when the AWAIT ends without a call.
 use Rattle.std.proofs.Common.{◌≡◌, ◌≢◌, ◌⊎◌, refl, sym, ap, ◌∙◌, inl, inr, ℕ, zero, suc, ◌+◌, Bool, true, false, ◌&&◌, cond, List, [], ◌∷◌, ◌++◌, length, Option, Some, None, Ok, Err, Result, subst}
-use Rattle.std.specs.Prelude.{⊤, slice_get}
+use Rattle.std.specs.Prelude.{slice_get}
 use Rattle.std.proofs.lemmas.List.{length-append}
 use native.Mathlib.Omega.{arith}
 use Rattle.b1_model.specs.declared.commands.Command.{Command}
 use Rattle.b1_model.specs.declared.commands.Command.TheVariants as cmd
 use Rattle.b1_model.specs.declared.answers.Answer.{Answer}
-use Rattle.b1_model.specs.declared.answers.Answer.TheVariants as answer
 use Rattle.b1_model.specs.declared.answers.Front.{Front}
 use Rattle.b1_model.specs.declared.answers.Receipt.{Receipt}
 use Rattle.b1_model.specs.declared.naming.Opening.{Opening}
 use Rattle.b1_model.specs.declared.records.Call.{Call}
-use Rattle.b1_model.specs.declared.parts.Received.{Received}
 use Rattle.b1_model.specs.declared.events.Action.{Action}
 use Rattle.b1_model.specs.declared.events.Action.TheVariants as act
 use Rattle.b1_model.specs.declared.events.Outcome.{Outcome}
@@ -22,9 +20,9 @@ use Rattle.b1_model.specs.declared.events.Phase.TheVariants as phase
 use Rattle.b1_model.specs.MachineParts.{PeerPart, DriverPart, State}
 use Rattle.b1_model.specs.MachineReceive.{received}
 use Rattle.b1_model.specs.MachineDriver.{next_action, phase_action, recv_answer, Turn, Goes, Ends, turn}
-use Rattle.b1_model.specs.MachineTook.{is_await, is_waiting, is_again, attempt_of, with_facts, answer_of, is_done, as_call, call_of, ended, goes_by, turned, took, took_by}
+use Rattle.b1_model.specs.MachineTook.{is_await, is_waiting, attempt_of, with_facts, answer_of, is_done, as_call, ended, goes_by, turned, took, took_by}
 use Rattle.b1_model.specs.MachineEvents.{happens}
-use Rattle.b1_model.specs.MachineStep.{Label, Leads, Reached, Step, begun, idle_driver, idle_drivers, opening_state}
+use Rattle.b1_model.specs.MachineStep.{Label, Leads, Reached, Step, idle_driver, idle_drivers, opening_state}
 use Rattle.b1_model.specs.declared.naming.PeerSpec.{PeerSpec}
 use Rattle.b1_step.proofs.Lists.{set_cases}
 use Rattle.b1_core.specs.Shown.{PhaseShown, OpenShown, AreShown}

@@ -1,24 +1,23 @@
 -- What a turn makes of a bus.
-use Rattle.std.proofs.Common.{◌≡◌, ◌≢◌, ◌⊎◌, refl, sym, ap, ◌∙◌, inl, inr, subst, ℕ, zero, suc, ◌+◌, ◌<◌, ◌≤◌, Bool, true, false, not, List, [], ◌∷◌, length, map, set, get_or, Option, Some, None, Ok, Err, Result, is_none, slice_get}
+use Rattle.std.proofs.Common.{◌≡◌, ◌⊎◌, refl, sym, ap, ◌∙◌, inl, inr, subst, ℕ, zero, suc, ◌<◌, true, false, not, List, [], ◌∷◌, length, map, get_or, Option, Some, None, Ok, Err, Result, is_none}
 use Rattle.std.specs.Prelude.{option_map, IfOk, OnErr}
-use Rattle.std.proofs.lemmas.Option.{slice_get_within, get_or_from_slice_get}
+use Rattle.std.proofs.lemmas.Option.{get_or_from_slice_get}
 use native.Mathlib.Omega.{arith}
 use Rattle.b1_model.specs.declared.naming.Opening.{Opening}
 use Rattle.b1_model.specs.declared.commands.Command.{Command}
 use Rattle.b1_model.specs.declared.commands.Command.TheVariants as cmd
 use Rattle.b1_model.specs.declared.events.Doing.{Doing}
-use Rattle.b1_model.specs.Opening.{IsOpening}
 use Rattle.b1_model.specs.Script.{resolved}
-use Rattle.b1_model.specs.MachineParts.{PeerPart, DriverPart, State}
+use Rattle.b1_model.specs.MachineParts.{DriverPart, State}
 use Rattle.b1_model.specs.MachineOrder.{next_command}
-use Rattle.b1_model.specs.MachineStep.{Step, Reached, idle_driver}
+use Rattle.b1_model.specs.MachineStep.{Step, idle_driver}
 use Rattle.b1_step.proofs.Steps.{reached_more}
 use Rattle.b1_peer.specs.Seen.{PeerSeen}
 use Rattle.b1_driver.specs.Parts.{Driver}
 use Rattle.b1_core.specs.declared.turn.Turn.{Turn}
 use Rattle.b1_core.specs.declared.turn.Turn.TheVariants as turn
-use Rattle.b1_core.specs.Turns.{Bus, driver_at, command_at, has_open, has_ended, scripted, drained, Stands, IsTurn, Turns, Drains}
-use Rattle.b1_core.specs.Bus.{state_of, AreStocked, IsCore, Begins, IsStep}
+use Rattle.b1_core.specs.Turns.{Bus, driver_at, has_open, scripted, drained, IsTurn, Turns, Drains}
+use Rattle.b1_core.specs.Bus.{state_of, AreStocked, IsCore, IsStep}
 
 -- ---- the core
 

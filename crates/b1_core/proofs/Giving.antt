@@ -1,5 +1,5 @@
 -- The next wire of an opening can be given to the peers that have the wires before it.
-use Rattle.std.proofs.Common.{◌≡◌, ◌≢◌, refl, sym, ap, ◌∙◌, subst, ℕ, zero, suc, ◌+◌, ◌-◌, ◌^◌, ◌<◌, ◌≤◌, Bool, true, false, List, [], ◌∷◌, ◌++◌, fold, length, set, get_or, inl, inr, Option, Some, None, slice_get, append_assoc}
+use Rattle.std.proofs.Common.{◌≡◌, ◌≢◌, refl, sym, ap, ◌∙◌, subst, ℕ, zero, suc, ◌+◌, ◌-◌, ◌^◌, ◌<◌, false, List, [], ◌∷◌, ◌++◌, length, set, get_or, inl, inr, Option, Some, None, slice_get, append_assoc}
 use Rattle.std.proofs.lemmas.Bool.{cases_eq}
 use Rattle.std.proofs.lemmas.List.{length-set}
 use Rattle.std.proofs.lemmas.List.Sums.{fold-append}
@@ -16,7 +16,7 @@ use Rattle.b1_step.specs.Rights.{Has}
 use Rattle.b1_inv.specs.Words.{IsPeer, IsDriver}
 use Rattle.b1_inv.specs.Bounds.{call_bound}
 use Rattle.b1_inv.specs.Sound.{IsSound}
-use Rattle.b1_core.specs.Wiring.{part_of, CanCount, CanHold, CanPass, CanGive}
+use Rattle.b1_core.specs.Wiring.{part_of, CanHold, CanPass, CanGive}
 use Rattle.b1_event.specs.Borne.{AreShort}
 use Rattle.b1_event.proofs.Bounds.{calls_few, all_calls_few}
 use Rattle.b1_event.proofs.Facts.{peer_within, few_drivers}

@@ -1,5 +1,5 @@
 -- The peers and drivers of an opening, one after another.
-use Rattle.std.proofs.Common.{◌≡◌, refl, sym, ap, ◌∙◌, subst, ℕ, zero, suc, ◌+◌, ◌*◌, ◌<◌, ◌≤◌, List, [], ◌∷◌, ◌++◌, length, map, replicate, set, take, drop, get_or, Option, Some, None, Ok, Err, Result, slice_get}
+use Rattle.std.proofs.Common.{◌≡◌, refl, sym, ap, ◌∙◌, subst, ℕ, zero, suc, ◌+◌, ◌*◌, ◌<◌, ◌≤◌, List, [], ◌∷◌, ◌++◌, length, map, set, take, drop, get_or, Option, Some, None, Ok, Err, Result, slice_get}
 use Rattle.std.specs.List.{All}
 use Rattle.std.specs.Prelude.{IfSome, OnOk}
 use Rattle.std.proofs.lemmas.List.{length-map}
@@ -20,8 +20,7 @@ use Rattle.b1_driver.specs.Parts.{Driver}
 use Rattle.b1_peer.specs.Seen.{PeerSeen}
 use Rattle.b1_event.specs.Events.{HasUsers}
 use Rattle.b1_model.specs.declared.commands.Command.{Command}
-use Rattle.b1_core.specs.Bus.{state_of, AreNew, IsStocked, AreStocked, IsCore}
-use Rattle.b1_event.specs.Borne.{call_limit}
+use Rattle.b1_core.specs.Bus.{state_of, AreNew, AreStocked, IsCore}
 use Rattle.b1_inv.specs.Sound.{IsSound}
 use Rattle.b1_core.proofs.Turning.{at_map, map_set, same_set, read_at}
 use Rattle.b1_core.specs.Wiring.{part_of}

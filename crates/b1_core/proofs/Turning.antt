@@ -1,15 +1,13 @@
 -- One turn of a driver: its step, where it leaves the driver, and what is in stock afterwards.
-use Rattle.std.proofs.Common.{◌≡◌, ◌≢◌, ◌⊎◌, refl, sym, ap, ◌∙◌, inl, inr, subst, ℕ, zero, suc, ◌+◌, ◌^◌, ◌<◌, ◌≤◌, Bool, true, false, not, List, [], ◌∷◌, ◌++◌, length, map, set, get_or, Option, Some, None, is_none, slice_get}
-use Rattle.std.proofs.lemmas.Option.{slice_get_within, get_or_from_slice_get}
-use Rattle.std.proofs.lemmas.List.{length-set, length-append, length-map}
+use Rattle.std.proofs.Common.{◌≡◌, ◌≢◌, ◌⊎◌, refl, sym, ap, ◌∙◌, inl, inr, subst, ℕ, zero, suc, ◌+◌, ◌<◌, Bool, true, false, List, [], ◌∷◌, ◌++◌, length, map, set, get_or, Option, Some, None, slice_get}
+use Rattle.std.proofs.lemmas.Option.{slice_get_within}
+use Rattle.std.proofs.lemmas.List.{length-append, length-map}
 use native.Mathlib.Omega.{arith}
 use Rattle.b1_model.specs.declared.naming.Opening.{Opening}
 use Rattle.b1_model.specs.declared.commands.Command.{Command}
 use Rattle.b1_model.specs.declared.records.Call.{Call}
-use Rattle.b1_model.specs.declared.events.Action.{Action}
-use Rattle.b1_model.specs.declared.events.Action.TheVariants as act
 use Rattle.b1_model.specs.Opening.{IsOpening}
-use Rattle.b1_model.specs.MachineParts.{PeerPart, DriverPart, State}
+use Rattle.b1_model.specs.MachineParts.{DriverPart}
 use Rattle.b1_model.specs.MachineDriver.{next_action, peer_of}
 use Rattle.b1_model.specs.MachineStep.{Step, Reached, begun}
 use Rattle.b1_step.specs.Rights.{may_be_elsewhere, node_facts}
@@ -22,8 +20,8 @@ use Rattle.b1_driver.specs.Parts.{Driver}
 use Rattle.b1_core.specs.declared.turn.Turn.{Turn}
 use Rattle.b1_core.specs.declared.turn.Turn.TheVariants as turn
 use Rattle.b1_event.specs.Events.{Allowed, Does, HasStock, HasUsers}
-use Rattle.b1_core.specs.Turns.{Stands, StandsBehind, driver_at}
-use Rattle.b1_core.specs.Bus.{state_of, IsStocked, AreStocked, Begins, IsStep}
+use Rattle.b1_core.specs.Turns.{Stands, StandsBehind}
+use Rattle.b1_core.specs.Bus.{state_of, IsStocked, AreStocked, IsStep}
 use Rattle.b1_inv_peer.specs.PeerOk.{PeerOk}
 use Rattle.b1_event.specs.Borne.{call_limit, AreShort, IsBorne, BearsEvents}
 use Rattle.b1_event.proofs.Opened.{begins, opened, begun_step, target_is}

@@ -1,9 +1,7 @@
 -- While the wires of an opening are given, each one can be given: the state so far is that of an opening with fewer wires.
-use Rattle.std.proofs.Common.{◌≡◌, ◌≢◌, ◌⊎◌, refl, sym, ap, ◌∙◌, inl, inr, subst, ℕ, zero, suc, ◌+◌, ◌-◌, ◌^◌, ◌<◌, ◌≤◌, Bool, true, false, ◌&&◌, ◌==◌, cond, List, [], ◌∷◌, ◌++◌, fold, find, length, set, get_or, replicate, Option, Some, None, slice_get}
+use Rattle.std.proofs.Common.{◌≡◌, ◌≢◌, ◌⊎◌, refl, sym, ap, ◌∙◌, inl, inr, subst, ℕ, zero, suc, ◌+◌, ◌-◌, ◌<◌, ◌≤◌, Bool, true, false, ◌&&◌, ◌==◌, cond, List, [], ◌∷◌, ◌++◌, fold, find, length, set, get_or, replicate, Option, Some, None, slice_get}
 use Rattle.std.proofs.lemmas.Bool.{cases_lt, eqb-true}
-use Rattle.std.proofs.lemmas.Option.{slice_get_within, get_or_from_slice_get}
-use Rattle.std.proofs.lemmas.List.{length-set, length-append}
-use Rattle.std.proofs.lemmas.List.Sums.{fold-append}
+use Rattle.std.proofs.lemmas.List.{length-append}
 use native.Mathlib.Omega.{arith}
 use Rattle.b1_model.specs.declared.naming.NodeRef.{NodeRef}
 use Rattle.b1_model.specs.declared.naming.PeerSpec.{PeerSpec}
@@ -12,13 +10,12 @@ use Rattle.b1_model.specs.declared.naming.Opening.{Opening}
 use Rattle.b1_model.specs.declared.parts.NodeState.TheVariants.{Live}
 use Rattle.b1_model.specs.Names.{is_own}
 use Rattle.b1_model.specs.Opening.{IsOpening, AreWired, CanWire, after_wire}
-use Rattle.b1_model.specs.MachineParts.{PeerPart, NodePart, HandleRecord, State, is_live, no_node, node_at, no_record, record_or_none, same_ref, ref_before}
-use Rattle.b1_model.specs.MachineTables.{count_of, counted, more_held, next_number, node_named, serial_of, with_made, with_node, changed_or_made}
-use Rattle.b1_model.specs.MachineStep.{Reached, no_peer, with_part, wire_made, wire_counted, wire_held, wired, peer_before, peers_before, opening_state}
+use Rattle.b1_model.specs.MachineParts.{PeerPart, NodePart, HandleRecord, is_live, no_node, no_record, same_ref, ref_before}
+use Rattle.b1_model.specs.MachineTables.{counted, more_held, next_number, node_named, serial_of, with_made, with_node, changed_or_made}
+use Rattle.b1_model.specs.MachineStep.{no_peer, with_part, wire_made, wire_counted, wire_held, wired, peer_before, peers_before, opening_state}
 use Rattle.b1_step.specs.Rights.{Has}
-use Rattle.b1_step.proofs.Lists.{set_cases, read_same, read_other}
-use Rattle.b1_inv.specs.Sound.{IsSound}
-use Rattle.b1_core.specs.Wiring.{part_of, CanCount, CanHold, CanPass, CanGive}
+use Rattle.b1_step.proofs.Lists.{set_cases}
+use Rattle.b1_core.specs.Wiring.{part_of}
 
 -- ---- an opening with fewer wires
 

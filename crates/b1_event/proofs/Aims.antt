@@ -1,5 +1,5 @@
 -- The peer where a next event is, is one of the bus.
-use Rattle.std.proofs.Common.{◌≡◌, ◌⊎◌, refl, sym, ap, ◌∙◌, inl, inr, subst, ℕ, zero, suc, ◌+◌, ◌<◌, ◌≤◌, Bool, true, false, cond, List, [], ◌∷◌, length, get_or, Option, Some, None}
+use Rattle.std.proofs.Common.{◌≡◌, ◌⊎◌, refl, sym, ap, inl, inr, subst, ℕ, zero, suc, ◌<◌, Bool, true, false, List, [], ◌∷◌, length, get_or, Option, Some, None}
 use Rattle.std.specs.List.{All}
 use Rattle.std.proofs.lemmas.List.Elements.{All-head, All-tail}
 use native.Mathlib.Omega.{arith}
@@ -7,24 +7,20 @@ use Rattle.b1_model.specs.declared.naming.NodeRef.{NodeRef}
 use Rattle.b1_model.specs.declared.naming.Opening.{Opening}
 use Rattle.b1_model.specs.declared.commands.Command.{Command}
 use Rattle.b1_model.specs.declared.commands.Command.TheVariants as cmd
-use Rattle.b1_model.specs.declared.parts.Begun.{Begun}
 use Rattle.b1_model.specs.declared.events.Action.{Action}
 use Rattle.b1_model.specs.declared.events.Action.TheVariants as act
-use Rattle.b1_model.specs.declared.events.Destruction.{Destruction}
 use Rattle.b1_model.specs.declared.events.Doing.{Doing}
 use Rattle.b1_model.specs.declared.events.OwedDrop.{OwedDrop}
 use Rattle.b1_model.specs.declared.events.Phase.{Phase}
 use Rattle.b1_model.specs.declared.events.Phase.TheVariants as phase
 use Rattle.b1_model.specs.MachineParts.{PeerPart, DriverPart, State}
-use Rattle.b1_model.specs.MachineDriver.{no_ref, node_of_place, first_action, phase_action, next_action, peer_of}
+use Rattle.b1_model.specs.MachineDriver.{no_ref, node_of_place, phase_action, next_action, peer_of}
 use Rattle.b1_step.specs.Rights.{Has}
-use Rattle.b1_inv.specs.Words.{IsPeer, IsDriver, IsMade}
-use Rattle.b1_inv.specs.Sends.{IsBegun, SendShape}
-use Rattle.b1_inv.specs.Notices.{AreOthers, IsDestruction, DestructionShape}
-use Rattle.b1_inv.specs.References.{IsDrop}
+use Rattle.b1_inv.specs.Words.{IsMade}
+use Rattle.b1_inv.specs.Sends.{SendShape}
+use Rattle.b1_inv.specs.Notices.{AreOthers, DestructionShape}
 use Rattle.b1_inv.specs.Sound.{IsSound}
-use Rattle.b1_event.proofs.Facts.{few_peers, peer_within}
-use Rattle.b1_event.proofs.Opened.{begins}
+use Rattle.b1_event.proofs.Facts.{peer_within}
 
 -- ---- which event is next
 

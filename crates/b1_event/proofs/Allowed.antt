@@ -1,49 +1,40 @@
 -- What an open command's next event needs holds in a reached state.
-use Rattle.std.proofs.Common.{◌≡◌, ◌≢◌, ◌⊎◌, refl, sym, ap, ◌∙◌, inl, inr, subst, ℕ, zero, suc, ◌+◌, ◌-◌, ◌^◌, ◌<◌, ◌≤◌, ◌%◌, ◌==◌, Bool, true, false, cond, ◌&&◌, nat_le, nat_lt, List, [], ◌∷◌, length, filter, find, get_or, Option, Some, None, slice_get}
-use Rattle.std.specs.Prelude.{⊤}
+use Rattle.std.proofs.Common.{◌≡◌, ◌≢◌, refl, sym, ap, ◌∙◌, inl, inr, subst, ℕ, zero, suc, ◌-◌, ◌<◌, ◌≤◌, ◌%◌, ◌==◌, Bool, true, false, cond, ◌&&◌, List, [], ◌∷◌, length, find, get_or, Option, Some, None}
 use Rattle.std.specs.List.{All}
-use Rattle.std.proofs.lemmas.Bool.{eqb-true, eq-eqb, ne_eqb}
+use Rattle.std.proofs.lemmas.Bool.{eqb-true, ne_eqb}
 use Rattle.std.proofs.lemmas.Option.{slice_get_within}
-use Rattle.std.proofs.lemmas.List.Elements.{All-get_or, All-nil, All-cons, All-head, All-tail}
-use Rattle.std.proofs.lemmas.List.Kept.{AllPairs-cons}
+use Rattle.std.proofs.lemmas.List.Elements.{All-get_or, All-head, All-tail}
 use native.Mathlib.Omega.{arith}
 use Rattle.b1_model.specs.declared.limits.TheConstants.{MOST_PEERS, MOST_HANDLES}
 use Rattle.b1_model.specs.declared.naming.Key.{Key}
 use Rattle.b1_model.specs.declared.naming.NodeRef.{NodeRef}
 use Rattle.b1_model.specs.declared.naming.Opening.{Opening}
 use Rattle.b1_model.specs.declared.commands.Command.{Command}
-use Rattle.b1_model.specs.declared.commands.Command.TheVariants as cmd
 use Rattle.b1_model.specs.declared.answers.Reason.{Reason}
 use Rattle.b1_model.specs.declared.parts.Begun.{Begun}
 use Rattle.b1_model.specs.declared.parts.Slot.{Slot}
 use Rattle.b1_model.specs.declared.parts.Slot.TheVariants as slot
 use Rattle.b1_model.specs.declared.entries.Entry.{Entry}
 use Rattle.b1_model.specs.declared.entries.Entry.TheVariants.{Message, OwnNotice, ForeignNotice, ReleaseNotice}
-use Rattle.b1_model.specs.declared.events.Action.{Action}
-use Rattle.b1_model.specs.declared.events.Action.TheVariants as act
-use Rattle.b1_model.specs.declared.events.Destruction.{Destruction}
 use Rattle.b1_model.specs.declared.events.Doing.{Doing}
 use Rattle.b1_model.specs.declared.events.Phase.{Phase}
-use Rattle.b1_model.specs.declared.events.Phase.TheVariants as phase
 use Rattle.b1_model.specs.declared.events.Sending.{Sending}
-use Rattle.b1_model.specs.MachineParts.{PeerPart, DriverPart, State, is_staged, is_data, is_odd, no_origin, node_at, is_dying, carried}
-use Rattle.b1_model.specs.MachineTables.{is_stage, count_of}
+use Rattle.b1_model.specs.MachineParts.{PeerPart, DriverPart, State, is_staged, is_data, no_origin, carried}
+use Rattle.b1_model.specs.MachineTables.{is_stage}
 use Rattle.b1_model.specs.MachineSend.{find_stage}
-use Rattle.b1_model.specs.MachineDriver.{no_ref, node_of_place, phase_action}
-use Rattle.b1_model.specs.MachineEvents.{begun_of, slots_at, collected_of, doomed_of}
+use Rattle.b1_model.specs.MachineDriver.{no_ref, node_of_place}
+use Rattle.b1_model.specs.MachineEvents.{begun_of, slots_at, collected_of}
 use Rattle.b1_step.specs.Rights.{Has}
-use Rattle.b1_step.specs.Ordered.{NewKey}
-use Rattle.b1_inv.specs.Words.{IsPeer, IsDriver, IsMade, is_accepted_place, waits_at, is_pending, is_uncommitted, fixed_stamp}
-use Rattle.b1_inv.specs.Sends.{IsBegun, IsFilled, IsSending, IsAttached, SendShape}
-use Rattle.b1_inv.specs.Stages.{HasSender, IsMessageOf}
+use Rattle.b1_inv.specs.Words.{IsPeer, IsDriver, IsMade, is_accepted_place, waits_at, is_uncommitted, fixed_stamp}
+use Rattle.b1_inv.specs.Sends.{IsBegun, IsFilled, IsAttached, SendShape}
+use Rattle.b1_inv.specs.Stages.{IsMessageOf}
 use Rattle.b1_inv.specs.Stamps.{WasCommitted}
-use Rattle.b1_inv.specs.Notices.{Apart, IsDestruction, DestructionShape}
-use Rattle.b1_inv_peer.specs.Needs.{IsClock, IsSlot, AreSlots, SlotsFit, CommitsAnew, AreDying}
+use Rattle.b1_inv_peer.specs.Needs.{IsClock, IsSlot, AreSlots, SlotsFit, CommitsAnew}
 use Rattle.b1_event.specs.Borne.{AreShort}
-use Rattle.b1_event.specs.Events.{StageAllowed, AttachAllowed, CommitAllowed, StampDestroyAllowed, VisitAllowed, NoticesAllowed, AllowedOf}
+use Rattle.b1_event.specs.Events.{StageAllowed, AttachAllowed, CommitAllowed}
 use Rattle.b1_inv.specs.Sound.{IsSound}
 use Rattle.b1_event.proofs.Bounds.{clock_is, all_calls_few}
-use Rattle.b1_event.proofs.Facts.{Free, new_key, peer_same, driver_same, made_here, peer_within, few_peers, few_drivers, stage_free}
+use Rattle.b1_event.proofs.Facts.{Free, new_key, driver_same, made_here, peer_within, few_peers, few_drivers, stage_free}
 
 -- ---- places
 

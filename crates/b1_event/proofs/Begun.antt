@@ -1,5 +1,5 @@
 -- An accepted begin finds a node for each number of a SEND.
-use Rattle.std.proofs.Common.{◌≡◌, ◌⊎◌, refl, sym, ap, ◌∙◌, inl, inr, subst, ℕ, zero, suc, ◌+◌, ◌<◌, ◌≤◌, Bool, true, false, cond, ◌||◌, ◌==◌, ◌%◌, nat_lt, nat_le, not, List, [], ◌∷◌, ◌++◌, fold, find, filter, length, map, get_or, replicate, Option, Some, None, is_none, Ok, Err, Result}
+use Rattle.std.proofs.Common.{◌≡◌, ◌⊎◌, refl, sym, ap, ◌∙◌, inl, inr, subst, ℕ, zero, suc, ◌+◌, ◌<◌, Bool, true, false, cond, ◌==◌, ◌%◌, nat_lt, nat_le, not, List, [], ◌∷◌, ◌++◌, fold, find, filter, length, map, get_or, replicate, Option, Some, None, is_none, Ok}
 use Rattle.std.specs.Prelude.{filter_map, option_map}
 use Rattle.std.specs.Bool.{then_some}
 use Rattle.std.specs.List.{list_any, position_or_len}
@@ -12,7 +12,6 @@ use Rattle.b1_model.specs.declared.parts.Begun.{Begun as Found}
 use Rattle.b1_model.specs.declared.answers.Reason.{Reason}
 use Rattle.b1_model.specs.declared.answers.Reason.TheVariants as reason
 use Rattle.b1_model.specs.declared.commands.SendCmd.{SendCmd}
-use Rattle.b1_model.specs.declared.events.Outcome.{Outcome}
 use Rattle.b1_model.specs.declared.events.Outcome.TheVariants as out
 use Rattle.b1_model.specs.Names.{is_own, is_given}
 use Rattle.b1_model.specs.MachineParts.{PeerPart, NodePart, no_node, is_odd, clock_limit}

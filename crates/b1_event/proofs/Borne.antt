@@ -1,20 +1,18 @@
 -- In a reached state whose lists of calls are short, the next event of every driver is borne.
-use Rattle.std.proofs.Common.{◌≡◌, ◌⊎◌, refl, sym, ap, ◌∙◌, inl, inr, subst, ℕ, ◌≤◌, length, Option, Some, None, slice_get}
+use Rattle.std.proofs.Common.{◌≡◌, ◌⊎◌, refl, sym, ap, ◌∙◌, inl, inr, subst, ℕ, Option, Some, None, slice_get}
 use Rattle.std.proofs.lemmas.Option.{slice_get_within}
 use native.Mathlib.Omega.{arith}
 use Rattle.b1_model.specs.declared.naming.Opening.{Opening}
 use Rattle.b1_model.specs.declared.commands.Command.{Command}
 use Rattle.b1_model.specs.declared.events.Action.{Action}
 use Rattle.b1_model.specs.declared.events.Action.TheVariants as act
-use Rattle.b1_model.specs.Opening.{IsOpening}
 use Rattle.b1_model.specs.MachineParts.{PeerPart, DriverPart, State}
 use Rattle.b1_model.specs.MachineDriver.{next_action, peer_of}
 use Rattle.b1_model.specs.MachineStep.{Reached, begun}
-use Rattle.b1_inv_peer.specs.PeerOk.{PeerOk}
 use Rattle.b1_driver.specs.Parts.{Driver}
-use Rattle.b1_event.specs.Events.{Allowed, HasStock}
+use Rattle.b1_event.specs.Events.{HasStock}
 use Rattle.b1_inv.specs.Sound.{IsSound}
-use Rattle.b1_event.specs.Borne.{AreShort, HasRoomForNodes, IsBorne, BearsEvents}
+use Rattle.b1_event.specs.Borne.{AreShort, HasRoomForNodes, IsBorne}
 use Rattle.b1_event.proofs.Opened.{begins, opened}
 use Rattle.b1_event.proofs.Weights.{reached_holds}
 use Rattle.b1_event.proofs.Next.{IsNext, next}

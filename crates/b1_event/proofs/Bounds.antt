@@ -1,5 +1,5 @@
 -- How large clocks, nodes, numbers and counts are where each driver's list has fewer than 2^25 calls.
-use Rattle.std.proofs.Common.{◌≡◌, refl, sym, ap, ◌∙◌, ℕ, zero, suc, ◌+◌, ◌*◌, ◌-◌, ◌^◌, ◌<◌, ◌≤◌, Bool, true, false, cond, nat_le, List, [], ◌∷◌, ◌++◌, length, sum_by, Option, Some, None, slice_get}
+use Rattle.std.proofs.Common.{◌≡◌, refl, ℕ, suc, ◌+◌, ◌*◌, ◌-◌, ◌^◌, ◌<◌, ◌≤◌, Bool, true, false, cond, nat_le, List, [], ◌∷◌, length, sum_by, Option, Some, None, slice_get}
 use Rattle.std.proofs.lemmas.List.{length-append}
 use Rattle.std.proofs.lemmas.List.Sums.{sum_by-cons}
 use native.Mathlib.Omega.{arith}
@@ -9,11 +9,9 @@ use Rattle.b1_model.specs.declared.commands.Command.{Command}
 use Rattle.b1_model.specs.declared.answers.Answer.{Answer}
 use Rattle.b1_model.specs.declared.events.Doing.{Doing}
 use Rattle.b1_model.specs.declared.records.Call.{Call}
-use Rattle.b1_model.specs.Opening.{IsOpening}
 use Rattle.b1_model.specs.MachineParts.{PeerPart, DriverPart, State, clock_limit}
 use Rattle.b1_model.specs.MachineTook.{answer_of, is_waiting, as_call, call_of, fixed_call, open_by, open_call, driver_calls}
-use Rattle.b1_inv.specs.Words.{IsDriver}
-use Rattle.b1_inv.specs.Bounds.{is_unanswered, calls_begun, call_bound, all_calls_bound}
+use Rattle.b1_inv.specs.Bounds.{calls_begun, call_bound, all_calls_bound}
 use Rattle.b1_inv.specs.Clocks.{IsClock as IsBounded, has_unstamped, spent, all_spent, clock_bound}
 use Rattle.b1_inv_peer.specs.Needs.{IsClock}
 use Rattle.b1_event.specs.Borne.{AreShort}

@@ -1,5 +1,5 @@
 -- A drop that is owed is allowed at the owner of its node.
-use Rattle.std.proofs.Common.{◌≡◌, ◌≢◌, ◌⊎◌, refl, sym, ap, ◌∙◌, inl, inr, subst, ℕ, zero, suc, ◌+◌, ◌^◌, ◌<◌, ◌≤◌, ◌==◌, max, Bool, true, false, cond, ◌&&◌, List, [], ◌∷◌, length, find, get_or, sum_by, Option, Some, None, slice_get}
+use Rattle.std.proofs.Common.{◌≡◌, refl, sym, ap, ◌∙◌, inl, inr, subst, ℕ, zero, suc, ◌<◌, ◌≤◌, ◌==◌, Bool, true, false, cond, ◌&&◌, List, [], ◌∷◌, length, find, get_or, sum_by, Option, Some, None, slice_get}
 use Rattle.std.specs.List.{list_all}
 use Rattle.std.proofs.lemmas.Bool.{eqb-true, eq-eqb}
 use Rattle.std.proofs.lemmas.List.Sums.{sum_by-cons}
@@ -10,15 +10,12 @@ use Rattle.b1_model.specs.declared.naming.Opening.{Opening}
 use Rattle.b1_model.specs.declared.entries.Entry.{Entry}
 use Rattle.b1_model.specs.declared.entries.Entry.TheVariants.{Message, OwnNotice, ForeignNotice, ReleaseNotice}
 use Rattle.b1_model.specs.declared.events.OwedDrop.{OwedDrop}
-use Rattle.b1_model.specs.MachineParts.{PeerPart, DriverPart, HandleRecord, State, no_origin, same_ref, node_at, no_record, record_of, record_or_none}
+use Rattle.b1_model.specs.MachineParts.{PeerPart, DriverPart, HandleRecord, State, no_origin, same_ref, node_at, no_record, record_or_none}
 use Rattle.b1_model.specs.MachineTables.{count_of}
 use Rattle.b1_model.specs.MachineCounts.{driver_amount, fresh, owed_amount}
 use Rattle.b1_step.specs.Rights.{Has}
-use Rattle.b1_step.specs.Ordered.{NewKey}
-use Rattle.b1_inv.specs.Words.{IsPeer, IsDriver, IsMade}
-use Rattle.b1_inv.specs.References.{count_in}
+use Rattle.b1_inv.specs.Words.{IsPeer, IsDriver}
 use Rattle.b1_inv_peer.specs.PeerOk.{PeerOk, count, is_notice_for}
-use Rattle.b1_inv_peer.specs.Needs.{ReleasesAnew}
 use Rattle.b1_event.specs.Events.{DropAllowed}
 use Rattle.b1_inv.specs.Sound.{IsSound}
 use Rattle.b1_event.proofs.Bounds.{clock_is}

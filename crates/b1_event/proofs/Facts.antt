@@ -1,7 +1,7 @@
 -- What holds of the parts of a reached state in which an event is next: its peer is there, its nodes were made, its keys are new.
-use Rattle.std.proofs.Common.{◌≡◌, ◌≢◌, ◌⊎◌, refl, sym, ap, ◌∙◌, inl, inr, subst, ℕ, zero, suc, ◌+◌, ◌-◌, ◌*◌, ◌^◌, ◌%◌, ◌==◌, ◌<◌, ◌≤◌, Bool, true, false, cond, ◌&&◌, nat_le, nat_lt, List, [], ◌∷◌, ◌++◌, length, filter, find, get_or, sum_by, Option, Some, None, slice_get}
-use Rattle.std.proofs.lemmas.Bool.{eqb-true, eq-eqb}
-use Rattle.std.proofs.lemmas.Option.{slice_get_within, get_or_from_slice_get}
+use Rattle.std.proofs.Common.{◌≡◌, ◌≢◌, refl, sym, ap, ◌∙◌, inl, inr, subst, ℕ, ◌+◌, ◌-◌, ◌%◌, ◌<◌, ◌≤◌, true, false, List, [], ◌∷◌, length, Some}
+use Rattle.std.proofs.lemmas.Bool.{eq-eqb}
+use Rattle.std.proofs.lemmas.Option.{slice_get_within}
 use native.Mathlib.Omega.{arith}
 use Rattle.b1_model.specs.declared.limits.TheConstants.{MOST_PEERS}
 use Rattle.b1_model.specs.declared.naming.Key.{Key}
@@ -10,14 +10,11 @@ use Rattle.b1_model.specs.declared.naming.Opening.{Opening}
 use Rattle.b1_model.specs.declared.entries.Entry.{Entry}
 use Rattle.b1_model.specs.declared.entries.Entry.TheVariants.{Message, OwnNotice, ForeignNotice, ReleaseNotice}
 use Rattle.b1_model.specs.declared.events.Doing.{Doing}
-use Rattle.b1_model.specs.declared.events.Phase.{Phase}
-use Rattle.b1_model.specs.MachineParts.{PeerPart, DriverPart, State, is_staged, is_data, is_odd}
+use Rattle.b1_model.specs.MachineParts.{PeerPart, DriverPart, State, is_staged, is_odd}
 use Rattle.b1_step.specs.Rights.{Has}
 use Rattle.b1_step.specs.Ordered.{NewKey}
-use Rattle.b1_step.specs.Fixed.{IsNumbered}
 use Rattle.b1_inv.specs.Words.{IsPeer, IsDriver, IsMade, waits_at, is_uncommitted}
-use Rattle.b1_inv.specs.Stages.{HasSender, StagesRight}
-use Rattle.b1_inv.specs.Notices.{NoticeShape, NoticesRight, doomed_now}
+use Rattle.b1_inv.specs.Stages.{HasSender}
 use Rattle.b1_inv.specs.Sound.{IsSound}
 
 some_same : {A : Type 0} (x y : A) → Some x ≡ Some y → x ≡ y

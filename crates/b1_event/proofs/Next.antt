@@ -1,40 +1,33 @@
 -- In a reached state the next event of every driver is at a peer of the bus, and all that it needs holds there.
-use Rattle.std.proofs.Common.{◌≡◌, ◌≢◌, ◌⊎◌, refl, sym, ap, ◌∙◌, inl, inr, subst, ℕ, zero, suc, ◌+◌, ◌-◌, ◌^◌, ◌<◌, ◌≤◌, Bool, true, false, cond, ◌&&◌, nat_le, List, [], ◌∷◌, length, get_or, Option, Some, None, slice_get}
+use Rattle.std.proofs.Common.{◌≡◌, refl, sym, ap, ◌∙◌, inl, inr, subst, ℕ, zero, suc, ◌+◌, ◌-◌, ◌^◌, ◌<◌, Bool, true, false, ◌&&◌, nat_le, List, [], ◌∷◌, length, get_or, Option, Some, None, slice_get}
 use Rattle.std.proofs.lemmas.Option.{slice_get_within}
 use native.Mathlib.Omega.{arith}
-use Rattle.b1_model.specs.declared.naming.Key.{Key}
 use Rattle.b1_model.specs.declared.naming.Opening.{Opening}
 use Rattle.b1_model.specs.declared.commands.Command.{Command}
 use Rattle.b1_model.specs.declared.commands.Command.TheVariants as cmd
-use Rattle.b1_model.specs.declared.entries.Entry.{Entry}
-use Rattle.b1_model.specs.declared.parts.NodeState.TheVariants.{Dying, Destroyed}
 use Rattle.b1_model.specs.declared.events.Action.{Action}
 use Rattle.b1_model.specs.declared.events.Action.TheVariants as act
-use Rattle.b1_model.specs.declared.events.Destruction.{Destruction}
 use Rattle.b1_model.specs.declared.events.Doing.{Doing}
 use Rattle.b1_model.specs.declared.events.OwedDrop.{OwedDrop}
 use Rattle.b1_model.specs.declared.events.Phase.{Phase}
 use Rattle.b1_model.specs.declared.events.Phase.TheVariants as phase
-use Rattle.b1_model.specs.declared.events.Sending.{Sending}
-use Rattle.b1_model.specs.MachineParts.{PeerPart, DriverPart, HandleRecord, State}
-use Rattle.b1_model.specs.MachineDriver.{node_of_place, phase_action, next_action, peer_of}
+use Rattle.b1_model.specs.MachineParts.{PeerPart, DriverPart, State}
+use Rattle.b1_model.specs.MachineDriver.{phase_action, next_action, peer_of}
 use Rattle.b1_model.specs.MachineTook.{is_done}
 use Rattle.b1_model.specs.MachineStep.{begun, no_peer}
 use Rattle.b1_step.specs.Rights.{Has}
-use Rattle.b1_inv.specs.Words.{IsPeer, IsDriver, phase_of, stamp_of_phase, fixed_stamp, waits_at, is_pending, phase_uncommitted, is_uncommitted, is_accepted_place}
-use Rattle.b1_inv.specs.References.{may_owe}
+use Rattle.b1_inv.specs.Words.{IsPeer, IsDriver, stamp_of_phase, fixed_stamp, waits_at, is_pending, phase_uncommitted, is_uncommitted, is_accepted_place}
 use Rattle.b1_inv.specs.Sends.{SendShape}
-use Rattle.b1_inv.specs.Stamps.{WasCommitted, is_committing, is_committing_notices}
-use Rattle.b1_inv.specs.Notices.{IsDestruction, DestructionShape}
+use Rattle.b1_inv.specs.Notices.{DestructionShape}
 use Rattle.b1_inv.specs.Bounds.{call_bound}
 use Rattle.b1_event.specs.Borne.{AreShort}
-use Rattle.b1_event.specs.Events.{open_in, ClocksAllowed, BeginDestroyAllowed, RecvAllowed, AllowedOf, Allowed}
+use Rattle.b1_event.specs.Events.{ClocksAllowed, BeginDestroyAllowed, RecvAllowed, AllowedOf, Allowed}
 use Rattle.b1_inv_peer.specs.PeerOk.{PeerOk}
 use Rattle.b1_inv.specs.Sound.{IsSound}
-use Rattle.b1_event.proofs.Opened.{Opened, begins, opened}
+use Rattle.b1_event.proofs.Opened.{begins, opened}
 use Rattle.b1_event.proofs.Does.{open_is}
 use Rattle.b1_event.proofs.Bounds.{calls_few}
-use Rattle.b1_event.proofs.Facts.{peer_within, stage_free}
+use Rattle.b1_event.proofs.Facts.{stage_free}
 use Rattle.b1_event.proofs.Aims.{drop_of, next_of, first_own, phase_within, node_within}
 use Rattle.b1_event.proofs.Drops.{drop_allowed}
 use Rattle.b1_event.proofs.Allowed.{accepted_past, accepted_within, few, me_is, driver_me, clock, send, collected, stamp_clock, stage_allowed, attach_allowed, commit_allowed}

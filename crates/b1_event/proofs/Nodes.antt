@@ -1,5 +1,5 @@
 -- How many nodes an event leaves at a peer: as many as before, and at a SEND's begin at most one more for each handle.
-use Rattle.std.proofs.Common.{◌≡◌, refl, sym, ap, ◌∙◌, ℕ, suc, ◌+◌, ◌≤◌, Bool, true, false, cond, List, [], ◌∷◌, ◌++◌, fold, filter, length, replicate, zip, Option, Some, None}
+use Rattle.std.proofs.Common.{◌≡◌, refl, ap, ◌∙◌, ℕ, suc, ◌+◌, ◌≤◌, Bool, true, false, cond, List, [], ◌∷◌, ◌++◌, fold, filter, length, replicate, zip, Option, Some, None}
 use Rattle.std.proofs.lemmas.List.{length-set, length-append}
 use native.Mathlib.Omega.{arith}
 use Rattle.b1_model.specs.declared.naming.Key.{Key}
@@ -23,9 +23,9 @@ use Rattle.b1_model.specs.Names.{is_own}
 use Rattle.b1_model.specs.MachinePool.{published}
 use Rattle.b1_model.specs.MachineParts.{PeerPart, DriverPart, NodePart, is_staged}
 use Rattle.b1_model.specs.MachineTables.{in_state, serial_of, with_made, with_node, with_nodes}
-use Rattle.b1_model.specs.MachineSend.{final_stamp, begun_part, send_refusal, stage_refusal, unstaged_by, find_stage, attached_by, attach_answer, committed_by}
-use Rattle.b1_model.specs.MachineReceive.{Arriving, slot_arrives, slots_arrived, reference_by, discarded, discards, cleared, taken_entry, front_by, front_taken, given_up, with_release_notice, slice_given_back}
-use Rattle.b1_model.specs.MachineDestroy.{needs_notice, notice_by, visited_from, with_foreign_notice, doom_by}
+use Rattle.b1_model.specs.MachineSend.{final_stamp, begun_part, unstaged_by, attached_by, committed_by}
+use Rattle.b1_model.specs.MachineReceive.{Arriving, slot_arrives, reference_by, discarded, discards, cleared, taken_entry, front_by, front_taken, given_up, with_release_notice, slice_given_back}
+use Rattle.b1_model.specs.MachineDestroy.{notice_by, visited_from, with_foreign_notice, doom_by}
 use Rattle.b1_model.specs.MachineEvents.{doomed_of, begin_refusal, begin_serials, begin_by, stage_by, destroy_by, local_part, happens}
 
 -- ---- lists of nodes

@@ -1,7 +1,7 @@
 -- What the events of an open destruction need holds in a reached state.
-use Rattle.std.proofs.Common.{◌≡◌, ◌≢◌, ◌⊎◌, refl, sym, ap, ◌∙◌, inl, inr, subst, ℕ, zero, suc, ◌+◌, ◌<◌, ◌≤◌, ◌%◌, ◌==◌, Bool, true, false, cond, ◌&&◌, ◌||◌, not, List, [], ◌∷◌, drop, length, filter, find, get_or, sum_by, Option, Some, None, slice_get}
+use Rattle.std.proofs.Common.{◌≡◌, ◌≢◌, refl, sym, ap, ◌∙◌, inl, inr, subst, ℕ, zero, suc, ◌<◌, ◌≤◌, ◌==◌, Bool, true, false, cond, ◌&&◌, ◌||◌, not, List, [], ◌∷◌, drop, length, filter, get_or, Option, Some, None, slice_get}
 use Rattle.std.specs.Prelude.{AllPairs}
-use Rattle.std.specs.List.{All, list_any}
+use Rattle.std.specs.List.{All}
 use Rattle.std.proofs.lemmas.Bool.{eqb-true, eq-eqb}
 use Rattle.std.proofs.lemmas.Option.{get_or_from_slice_get}
 use Rattle.std.proofs.lemmas.List.Elements.{All-nil, All-cons}
@@ -17,17 +17,16 @@ use Rattle.b1_model.specs.declared.entries.Entry.TheVariants.{Message, OwnNotice
 use Rattle.b1_model.specs.declared.events.Destruction.{Destruction}
 use Rattle.b1_model.specs.declared.events.Doing.{Doing}
 use Rattle.b1_model.specs.declared.events.Phase.{Phase}
-use Rattle.b1_model.specs.declared.events.Phase.TheVariants as phase
 use Rattle.b1_model.specs.MachineParts.{PeerPart, DriverPart, HandleRecord, State, is_odd, is_staged, is_data, same_ref, node_at, is_dying, no_record, record_of, record_or_none}
 use Rattle.b1_model.specs.MachineTables.{is_staged_notice}
 use Rattle.b1_model.specs.MachineDestroy.{needs_notice}
-use Rattle.b1_model.specs.MachineEvents.{collected_of, doomed_of}
+use Rattle.b1_model.specs.MachineEvents.{doomed_of}
 use Rattle.b1_step.specs.Rights.{Has}
 use Rattle.b1_step.specs.Ordered.{NewKey}
 use Rattle.b1_step.proofs.Lists.{filter_has}
-use Rattle.b1_inv.specs.Words.{IsPeer, IsDriver, waits_at, is_among, is_uncommitted, fixed_stamp}
+use Rattle.b1_inv.specs.Words.{IsPeer, IsDriver, waits_at, is_among, fixed_stamp}
 use Rattle.b1_inv.specs.Stamps.{WasCommitted}
-use Rattle.b1_inv.specs.Notices.{Apart, AreOthers, IsDestruction, doomed_now}
+use Rattle.b1_inv.specs.Notices.{Apart, IsDestruction, doomed_now}
 use Rattle.b1_inv_peer.specs.PeerOk.{PeerOk, count, is_notice_for}
 use Rattle.b1_inv_peer.specs.Needs.{AreDying}
 use Rattle.b1_peer_queue.specs.Mail.{Every, DistinctIndexes}
@@ -37,7 +36,7 @@ use Rattle.b1_event.specs.Events.{NoticesAllowed, StampDestroyAllowed, VisitAllo
 use Rattle.b1_inv.specs.Sound.{IsSound}
 use Rattle.b1_inv_peer.proofs.Counts.{count_cons, has_count}
 use Rattle.b1_event.proofs.Facts.{new_key, driver_same, odd_behind}
-use Rattle.b1_event.proofs.Allowed.{driver_me, clock, stamp_clock, collected, free, committed_with}
+use Rattle.b1_event.proofs.Allowed.{driver_me, clock, stamp_clock, collected, committed_with}
 
 -- ---- lists
 

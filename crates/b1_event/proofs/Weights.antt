@@ -1,5 +1,5 @@
 -- An open command whose answer is fixed has something left; and a peer's epoch is at most the number of its driver's calls.
-use Rattle.std.proofs.Common.{◌≡◌, ◌≢◌, ◌⊎◌, refl, sym, ap, ◌∙◌, inl, inr, subst, ℕ, zero, suc, ◌+◌, ◌<◌, ◌≤◌, Bool, true, false, ◌&&◌, cond, List, [], ◌∷◌, ◌++◌, fold, get_or, set, length, Option, Some, None, slice_get}
+use Rattle.std.proofs.Common.{◌≡◌, ◌≢◌, ◌⊎◌, refl, sym, ap, ◌∙◌, inl, inr, subst, ℕ, zero, suc, ◌+◌, ◌≤◌, Bool, true, false, ◌&&◌, cond, List, [], ◌∷◌, ◌++◌, fold, get_or, set, length, Option, Some, None, slice_get}
 use Rattle.std.proofs.lemmas.List.{length-append}
 use native.Mathlib.Omega.{arith}
 use Rattle.b1_model.specs.declared.naming.Opening.{Opening}
@@ -8,7 +8,6 @@ use Rattle.b1_model.specs.declared.commands.Command.{Command}
 use Rattle.b1_model.specs.declared.commands.Command.TheVariants as cmd
 use Rattle.b1_model.specs.declared.answers.Answer.{Answer}
 use Rattle.b1_model.specs.declared.answers.Answer.TheVariants as answer
-use Rattle.b1_model.specs.declared.answers.Reason.{Reason}
 use Rattle.b1_model.specs.declared.records.Call.{Call}
 use Rattle.b1_model.specs.declared.events.Action.{Action}
 use Rattle.b1_model.specs.declared.events.Action.TheVariants as act
@@ -19,8 +18,8 @@ use Rattle.b1_model.specs.declared.events.OwedDrop.{OwedDrop}
 use Rattle.b1_model.specs.declared.events.Phase.{Phase}
 use Rattle.b1_model.specs.declared.events.Phase.TheVariants as phase
 use Rattle.b1_model.specs.MachineParts.{PeerPart, DriverPart, State}
-use Rattle.b1_model.specs.MachineDriver.{first_action, phase_action, next_action, Turn, Goes, Ends, turn}
-use Rattle.b1_model.specs.MachineTook.{is_await, is_waiting, with_facts, answer_of, is_done, as_call, call_of, ended, goes_by, turned, took, took_by}
+use Rattle.b1_model.specs.MachineDriver.{phase_action, next_action, Turn, Goes, Ends, turn}
+use Rattle.b1_model.specs.MachineTook.{is_await, with_facts, answer_of, is_done, as_call, call_of, goes_by, turned, took, took_by}
 use Rattle.b1_model.specs.MachineReceive.{has_dead}
 use Rattle.b1_model.specs.MachineDestroy.{flushed}
 use Rattle.b1_model.specs.MachineEvents.{limits_after, happens}

@@ -6,9 +6,8 @@ use Rattle.b1_model.specs.MachineParts.{PeerPart, DriverPart, State}
 use Rattle.b1_model.specs.MachineDriver.{next_action, peer_of}
 use Rattle.b1_model.specs.MachineStep.{begun}
 use Rattle.b1_inv_peer.specs.PeerOk.{PeerOk}
-use Rattle.b1_peer.specs.Seen.{PeerSeen}
 use Rattle.b1_driver.specs.Parts.{Driver}
-use Rattle.b1_event.specs.Events.{Allowed, HasStock, HasUsers}
+use Rattle.b1_event.specs.Events.{Allowed, HasStock}
 
 -- a driver's list has fewer calls than this
 abbrev pub call_limit : ℕ

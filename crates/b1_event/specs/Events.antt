@@ -1,8 +1,6 @@
 -- What the next event of a driver needs of the two parts that it works on, and what it does to them.
-use Rattle.std.specs.Prelude.{◌≡◌, ◌≢◌, ℕ, ◌+◌, ◌-◌, ◌≤◌, ◌==◌, ◌<◌, ◌^◌, List, [], AllPairs, Bool, true, length, map, Option, Some, None, slice_get, ⊤}
+use Rattle.std.specs.Prelude.{◌≡◌, ◌≢◌, ℕ, ◌+◌, ◌-◌, ◌≤◌, ◌==◌, ◌<◌, ◌^◌, List, AllPairs, Bool, length, Option, Some, None, ⊤}
 use Rattle.b1_model.specs.declared.limits.TheConstants.{MOST_HANDLES, MOST_PAYLOAD}
-use Rattle.b1_model.specs.declared.naming.Key.{Key}
-use Rattle.b1_model.specs.declared.naming.NodeRef.{NodeRef}
 use Rattle.b1_model.specs.declared.naming.Opening.{Opening}
 use Rattle.b1_model.specs.declared.commands.Command.{Command}
 use Rattle.b1_model.specs.declared.commands.Command.TheVariants as cmd
@@ -14,8 +12,7 @@ use Rattle.b1_model.specs.declared.events.Phase.TheVariants.{Starting}
 use Rattle.b1_model.specs.MachineParts.{PeerPart, DriverPart, node_at}
 use Rattle.b1_model.specs.MachineTables.{count_of}
 use Rattle.b1_model.specs.MachineSend.{find_stage}
-use Rattle.b1_model.specs.MachineDestroy.{needs_notice}
-use Rattle.b1_model.specs.MachineDriver.{node_of_place, next_action, send_of}
+use Rattle.b1_model.specs.MachineDriver.{node_of_place, send_of}
 use Rattle.b1_model.specs.MachineEvents.{begun_of, slots_at, collected_of, doomed_of, begin_serials, happens}
 use Rattle.b1_model.specs.MachineStep.{LocalStep}
 use Rattle.b1_step.specs.Ordered.{NewKey}

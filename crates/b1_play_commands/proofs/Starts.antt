@@ -26,7 +26,6 @@ use Rattle.b1_model.specs.MachineSend.{first_reason, send_refusal}
 use Rattle.b1_model.specs.MachineReceive.{received, released}
 use Rattle.b1_model.specs.MachineDestroy.{is_not_live, live_serial, destroy_refusal, destroy_serials}
 use Rattle.b1_model.specs.MachineDriver.{send_of, refused_at, first_action, next_action, is_flushing, destroying, started, phase_action, turn}
-use Rattle.b1_model.specs.MachineTook.{is_await}
 use Rattle.b1_model.specs.MachineEvents.{happens, begin_by, destroy_by, begin_refusal, begin_serials, local_answer, number_of}
 use Rattle.b1_inv.specs.Notices.{IsDestroying}
 use Rattle.b1_play_commands.specs.Following.{EndsWell, PhaseFits, TurnFits}

@@ -1,11 +1,9 @@
 -- A step keeps each driver on its list of commands, and a list that has ended stays at its end.
-use Rattle.std.proofs.Common.{◌≡◌, ◌≢◌, ◌⊎◌, sym, ap, ◌∙◌, inl, inr, subst, ℕ, zero, suc, ◌≤◌, Bool, true, false, List, [], ◌∷◌, slice_get, length, Option, Some, None, is_some}
+use Rattle.std.proofs.Common.{◌≡◌, ◌≢◌, ◌⊎◌, sym, ◌∙◌, inl, inr, subst, ℕ, zero, suc, ◌≤◌, Bool, true, false, List, [], ◌∷◌, slice_get, length, Option, Some, None, is_some}
 use Rattle.std.proofs.lemmas.Option.{slice_get_past}
-use Rattle.std.proofs.lemmas.List.{length-append}
 use native.Mathlib.Omega.{arith}
 use Rattle.b1_model.specs.declared.naming.Opening.{Opening}
 use Rattle.b1_model.specs.declared.commands.Command.{Command}
-use Rattle.b1_model.specs.declared.records.Call.{Call}
 use Rattle.b1_model.specs.declared.events.Outcome.{Outcome}
 use Rattle.b1_model.specs.declared.events.Phase.TheVariants.{Starting}
 use Rattle.b1_model.specs.Script.{commands_of}
@@ -15,7 +13,6 @@ use Rattle.b1_model.specs.MachineTook.{turned, with_facts}
 use Rattle.b1_model.specs.MachineEvents.{happens}
 use Rattle.b1_model.specs.MachineStep.{Step}
 use Rattle.b1_model.specs.MachineOrder.{next_command}
-use Rattle.b1_step.specs.Fixed.{AtMostOneMore}
 use Rattle.b1_step.proofs.Locality.{step_grows}
 use Rattle.b1_inv.specs.Words.{IsDriver}
 use Rattle.b1_inv.specs.Sends.{SendsRight}

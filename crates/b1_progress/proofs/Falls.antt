@@ -1,5 +1,5 @@
 -- What is left of a SEND's work after each of its events.
-use Rattle.std.proofs.Common.{◌≡◌, refl, ap, arith, max, ℕ, zero, suc, ◌+◌, ◌*◌, ◌-◌, ◌≤◌, ◌<◌, Bool, true, false, cond, ◌&&◌, not, nat_lt, List, [], ◌∷◌, ◌++◌, length, Option, Some, None, Ok, Err, Result}
+use Rattle.std.proofs.Common.{◌≡◌, refl, ap, arith, max, ℕ, ◌+◌, ◌*◌, ◌-◌, ◌≤◌, ◌<◌, Bool, true, false, cond, ◌&&◌, not, nat_lt, List, [], ◌∷◌, ◌++◌, length, Option, Some, None, Ok, Err, Result}
 use Rattle.std.specs.Prelude.{⊤}
 use Rattle.std.proofs.Math.Nat.{mul-le-mul_left}
 use Rattle.b1_model.specs.declared.answers.Answer.TheVariants as answer
@@ -12,9 +12,7 @@ use Rattle.b1_model.specs.declared.events.Phase.TheVariants.{Staging, Unstaging,
 use Rattle.b1_model.specs.declared.events.Sending.{Sending}
 use Rattle.b1_model.specs.MachineDriver.{Turn, Goes, Ends, next_accepted, accepted_from, is_place, attaching, all_staged, all_refused, staging, unstaging, place_done, syncing, send_of}
 use Rattle.b1_model.specs.MachineTook.{is_done}
-use Rattle.b1_inv.specs.Words.{is_accepted_place}
 use Rattle.b1_progress.specs.Work.{phase_weight, commit_weight, sync_weight, stamp_weight, attach_weight, stage_weight}
-use Rattle.b1_inv_tools.proofs.Facts.{accepted_within}
 
 -- after a turn to a phase that isn't done there, less is left than the bound; an end leaves nothing
 abbrev pub Falls : Turn → List OwedDrop → Bool → ℕ → ℕ → ℕ → Type 0

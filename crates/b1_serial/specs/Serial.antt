@@ -16,7 +16,7 @@ use Rattle.b1_model.specs.declared.naming.Opening.{Opening}
 use Rattle.b1_model.specs.declared.naming.Wire.{Wire}
 use Rattle.b1_model.specs.declared.records.Call.{Call}
 use Rattle.b1_model.specs.declared.records.Record.{Record}
-use Rattle.b1_model.specs.Names.{Node, calls_of, wired}
+use Rattle.b1_model.specs.Names.{Node, wired}
 use Rattle.b1_model.specs.Ledger.{named, start}
 use Rattle.b1_model.specs.MachineParts.{clock_limit}
 use Rattle.b1_schedule.specs.Shortage.{Shortage}

@@ -15,7 +15,7 @@ use Rattle.b1_model.specs.declared.events.Phase.TheVariants.{Staging, Stamping}
 use Rattle.b1_model.specs.declared.records.Call.{Call}
 use Rattle.b1_model.specs.declared.records.Record.{Record}
 use Rattle.b1_model.specs.Names.{Node}
-use Rattle.b1_model.specs.MachineParts.{PeerPart, DriverPart, State, is_live, no_node}
+use Rattle.b1_model.specs.MachineParts.{PeerPart, DriverPart, State}
 use Rattle.b1_model.specs.MachinePool.{slice_len, taken, taken_offset}
 use Rattle.b1_model.specs.MachineEvents.{begin_event, stage_event, user_of}
 use Rattle.b1_model.specs.MachineStep.{with_parts}

@@ -1,4 +1,4 @@
-use Rattle.std.proofs.Common.{◌≡◌, ◌∙◌, sym, ap, subst, length, map}
+use Rattle.std.proofs.Common.{◌∙◌, sym, ap, subst, map}
 use Rattle.std.specs.List.{All}
 use native.Mathlib.Omega.{arith}
 use Rattle.b1_model.specs.MachineStep.{idle_drivers}

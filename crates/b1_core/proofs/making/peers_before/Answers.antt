@@ -1,4 +1,4 @@
-use Rattle.std.proofs.Common.{◌≡◌, ◌∙◌, sym, ap, subst, map, length}
+use Rattle.std.proofs.Common.{◌∙◌, sym, ap, subst, map}
 use Rattle.std.specs.List.{All}
 use native.Mathlib.Omega.{arith}
 use Rattle.b1_model.specs.MachineStep.{peers_before}

@@ -1,6 +1,6 @@
 use Rattle.std.proofs.Common.{◌≡◌, ◌∙◌, sym, ap, subst, set, length, not, is_none, Some, slice_get}
 use native.Mathlib.Omega.{arith}
-use Rattle.b1_model.specs.MachineDriver.{next_action, peer_of}
+use Rattle.b1_model.specs.MachineDriver.{peer_of}
 use Rattle.b1_core.specs.Turns.{StandsBehind}
 use Rattle.b1_core.specs.Bus.{state_of, AreStocked, IsStep}
 use Rattle.b1_core.proofs.Buses.{part_is}

@@ -1,4 +1,4 @@
-use Rattle.std.proofs.Common.{◌≡◌, ◌∙◌, sym, ap, subst, length}
+use Rattle.std.proofs.Common.{sym, subst}
 use native.Mathlib.Omega.{arith}
 use Rattle.b1_core.specs.Bus.{IsCore}
 use Rattle.b1_core.proofs.Turning.{as_many_peers}
