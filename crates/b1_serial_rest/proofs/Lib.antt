@@ -1,0 +1,5 @@
+pub mod Lines
+pub mod Records
+pub mod Wires
+pub mod Living
+pub mod Begins

@@ -1,0 +1,8 @@
+//! The machine at rest, and the serial bus that it stands for then.
+//!
+//! `specs/Standing.antt` is the serial bus that a state stands for, and `specs/Rest.antt` says when a state is at rest.
+#![tactic(auto)]
+
+mod laws;
+
+pub use laws::a_bus_begins_at_rest;
