@@ -3,3 +3,6 @@ pub mod Records
 pub mod Wires
 pub mod Living
 pub mod Begins
+pub mod Local
+pub mod Shown
+pub mod Kept

@@ -1,10 +1,26 @@
+ghost use Rattle.std.specs.Prelude.{◌≡◌, ℕ, true, Some, slice_get};
 ghost use Rattle.b1_model.specs.declared.naming.Opening.{Opening};
 ghost use Rattle.b1_model.specs.Opening.{IsOpening};
-ghost use Rattle.b1_model.specs.MachineStep.{opening_state};
+ghost use Rattle.b1_model.specs.declared.commands.Command.{Command};
+ghost use Rattle.b1_model.specs.MachineParts.{State};
+ghost use Rattle.b1_model.specs.MachineStep.{Step, opening_state};
+ghost use Rattle.b1_schedule.specs.Shortage.{Shortage};
+ghost use Rattle.b1_serial_bus.specs.Parts.{Part, Bus};
+ghost use Rattle.b1_serial_bus.specs.Commands.{after_command};
 ghost use Rattle.b1_serial_bus.specs.Opening.{opened};
 ghost use Rattle.b1_serial_rest.specs.Rest.{AtRest};
+ghost use Rattle.b1_serial_rest.specs.Alone.{is_alone};
 
 /// Before the first command the machine is at rest, and it stands for the serial bus before its first command.
 pub fn a_bus_begins_at_rest()
     ensures opening { (o : Opening) → IsOpening o → AtRest o (opening_state o) (opened o) }
+{}
+
+/// A command that touches nothing but its own peer is one step of the machine, which leads from rest to rest: the serial
+/// bus then is that after the command. So it is with SLICE_RELEASE, PEER_QUERY, PEER_RESET without flush, and with any
+/// command of a peer that has disconnected.
+pub fn a_command_alone_keeps_rest()
+    ensures kept { (o : Opening) (s : State) (bus : Bus) (p : ℕ) (y : Part) (command : Command) (m : Shortage) (t : State)
+        → AtRest o s bus → slice_get bus p ≡ Some y → is_alone command y ≡ true
+        → Step o s p (Some command) t → AtRest o t (after_command m command y bus) }
 {}

@@ -5,4 +5,4 @@
 
 mod laws;
 
-pub use laws::a_bus_begins_at_rest;
+pub use laws::{a_bus_begins_at_rest, a_command_alone_keeps_rest};
