@@ -32,10 +32,10 @@ use Rattle.b1_serial_rest.proofs.Shown.{shown, alone_shown, read_shown, boxes_sa
 
 -- ---- the parts of a peer of the bus
 
-abbrev Parts : List PeerPart → List DriverPart → ℕ → Part → Type 0
+abbrev pub Parts : List PeerPart → List DriverPart → ℕ → Part → Type 0
 Parts xs ds p y = (x : PeerPart) × (d : DriverPart) × (slice_get xs p ≡ Some x) × (slice_get ds p ≡ Some d) × (y ≡ part_of x d)
 
-parts_at : (xs : List PeerPart) (ds : List DriverPart) (p : ℕ) (y : Part) → slice_get (parts_of xs ds) p ≡ Some y → Parts xs ds p y
+pub parts_at : (xs : List PeerPart) (ds : List DriverPart) (p : ℕ) (y : Part) → slice_get (parts_of xs ds) p ≡ Some y → Parts xs ds p y
 parts_at [] ds p y is = absurd (cc is)
 parts_at (x ∷ xs) [] p y is = absurd (cc is)
 parts_at (x ∷ xs) (d ∷ ds) zero y is = (x, d, refl, refl, sym (same_Some (part_of x d) y is))

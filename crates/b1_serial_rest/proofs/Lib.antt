@@ -6,3 +6,4 @@ pub mod Begins
 pub mod Local
 pub mod Shown
 pub mod Kept
+pub mod Done

@@ -1,9 +1,9 @@
-ghost use Rattle.std.specs.Prelude.{◌≡◌, ℕ, true, Some, slice_get};
+ghost use Rattle.std.specs.Prelude.{◌≡◌, ℕ, Bool, true, Some, slice_get};
 ghost use Rattle.b1_model.specs.declared.naming.Opening.{Opening};
 ghost use Rattle.b1_model.specs.Opening.{IsOpening};
 ghost use Rattle.b1_model.specs.declared.commands.Command.{Command};
 ghost use Rattle.b1_model.specs.MachineParts.{State};
-ghost use Rattle.b1_model.specs.MachineStep.{Step, opening_state};
+ghost use Rattle.b1_model.specs.MachineStep.{Step, stepped, opening_state};
 ghost use Rattle.b1_schedule.specs.Shortage.{Shortage};
 ghost use Rattle.b1_serial_bus.specs.Parts.{Part, Bus};
 ghost use Rattle.b1_serial_bus.specs.Commands.{after_command};
@@ -20,7 +20,13 @@ pub fn a_bus_begins_at_rest()
 /// bus then is that after the command. So it is with SLICE_RELEASE, PEER_QUERY, PEER_RESET without flush, and with any
 /// command of a peer that has disconnected.
 pub fn a_command_alone_keeps_rest()
-    ensures kept { (o : Opening) (s : State) (bus : Bus) (p : ℕ) (y : Part) (command : Command) (m : Shortage) (t : State)
+    ensures done { (o : Opening) (s : State) (bus : Bus) (p : ℕ) (y : Part)
+        (command : Command) (m : Shortage) (memory : Bool)
+        → AtRest o s bus → slice_get bus p ≡ Some y → is_alone command y ≡ true
+        → (t : State) × (stepped o memory p (Some command) s ≡ Some t)
+        × AtRest o t (after_command m command y bus) }
+    ensures kept { (o : Opening) (s : State) (bus : Bus) (p : ℕ) (y : Part)
+        (command : Command) (m : Shortage) (t : State)
         → AtRest o s bus → slice_get bus p ≡ Some y → is_alone command y ≡ true
         → Step o s p (Some command) t → AtRest o t (after_command m command y bus) }
 {}
