@@ -7,3 +7,4 @@ pub mod Local
 pub mod Shown
 pub mod Kept
 pub mod Done
+pub mod Scheduled

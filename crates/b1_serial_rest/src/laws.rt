@@ -2,11 +2,14 @@ ghost use Rattle.std.specs.Prelude.{◌≡◌, ℕ, Bool, true, Some, slice_get}
 ghost use Rattle.b1_model.specs.declared.naming.Opening.{Opening};
 ghost use Rattle.b1_model.specs.Opening.{IsOpening};
 ghost use Rattle.b1_model.specs.declared.commands.Command.{Command};
-ghost use Rattle.b1_model.specs.MachineParts.{State};
+ghost use Rattle.b1_model.specs.MachineParts.{DriverPart, State};
 ghost use Rattle.b1_model.specs.MachineStep.{Step, stepped, opening_state};
+ghost use Rattle.b1_model.specs.Script.{resolved};
 ghost use Rattle.b1_schedule.specs.Shortage.{Shortage};
+ghost use Rattle.b1_schedule.specs.Schedule.{beginning, with_step};
+ghost use Rattle.b1_inv.specs.Words.{IsDriver};
 ghost use Rattle.b1_serial_bus.specs.Parts.{Part, Bus};
-ghost use Rattle.b1_serial_bus.specs.Commands.{after_command};
+ghost use Rattle.b1_serial_bus.specs.Commands.{after_command, after_command_of};
 ghost use Rattle.b1_serial_bus.specs.Opening.{opened};
 ghost use Rattle.b1_serial_rest.specs.Rest.{AtRest};
 ghost use Rattle.b1_serial_rest.specs.Alone.{is_alone};
@@ -18,7 +21,7 @@ pub fn a_bus_begins_at_rest()
 
 /// A command that touches nothing but its own peer is one step of the machine, which leads from rest to rest: the serial
 /// bus then is that after the command. So it is with SLICE_RELEASE, PEER_QUERY, PEER_RESET without flush, and with any
-/// command of a peer that has disconnected.
+/// command of a peer that has disconnected. A schedule's step does the same, with the command's references resolved.
 pub fn a_command_alone_keeps_rest()
     ensures done { (o : Opening) (s : State) (bus : Bus) (p : ℕ) (y : Part)
         (command : Command) (m : Shortage) (memory : Bool)
@@ -29,4 +32,10 @@ pub fn a_command_alone_keeps_rest()
         (command : Command) (m : Shortage) (t : State)
         → AtRest o s bus → slice_get bus p ≡ Some y → is_alone command y ≡ true
         → Step o s p (Some command) t → AtRest o t (after_command m command y bus) }
+    ensures scheduled { (o : Opening) (s : State) (bus : Bus) (p : ℕ) (y : Part) (d : DriverPart)
+        (command : Command) (m : Shortage)
+        → AtRest o s bus → slice_get bus p ≡ Some y → IsDriver s p d
+        → is_alone (resolved command y.calls) y ≡ true
+        → AtRest o (with_step o m p (beginning (Some command) d) d s)
+        (after_command_of m p command bus) }
 {}
