@@ -12,7 +12,8 @@ use Rattle.b1_serial_bus.specs.Commands.{after_command}
 use Rattle.b1_serial_rest.specs.Rest.{AtRest}
 use Rattle.b1_serial_rest.specs.Alone.{is_small, is_alone}
 use Rattle.b1_serial_rest.proofs.Local.{local_target}
-use Rattle.b1_serial_rest.proofs.Kept.{Parts, parts_at, rests}
+use Rattle.b1_serial_rest.proofs.Own.{Parts, parts_at}
+use Rattle.b1_serial_rest.proofs.Kept.{rests}
 
 module _ (o : Opening) (s : State) (bus : Bus) (p : ℕ) (y : Part) (command : Command) (m : Shortage) (memory : Bool)
     (rest : AtRest o s bus) (is : slice_get bus p ≡ Some y) (alone : is_alone command y ≡ true) where

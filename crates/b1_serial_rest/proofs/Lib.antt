@@ -5,6 +5,7 @@ pub mod Living
 pub mod Begins
 pub mod Local
 pub mod Shown
+pub mod Own
 pub mod Kept
 pub mod Done
 pub mod Scheduled

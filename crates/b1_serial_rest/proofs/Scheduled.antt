@@ -12,7 +12,7 @@ use Rattle.b1_serial_bus.specs.Parts.{Part, Bus}
 use Rattle.b1_serial_bus.specs.Commands.{after_command, after_command_of}
 use Rattle.b1_serial_rest.specs.Rest.{AtRest}
 use Rattle.b1_serial_rest.specs.Alone.{is_alone}
-use Rattle.b1_serial_rest.proofs.Kept.{Parts, parts_at}
+use Rattle.b1_serial_rest.proofs.Own.{Parts, parts_at}
 use Rattle.b1_serial_rest.proofs.Done.{done}
 use Rattle.std.proofs.lemmas.Option.{same_Some}
 
