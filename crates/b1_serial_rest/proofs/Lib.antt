@@ -9,3 +9,4 @@ pub mod Own
 pub mod Kept
 pub mod Done
 pub mod Scheduled
+pub mod Refused

@@ -1,7 +1,8 @@
-ghost use Rattle.std.specs.Prelude.{◌≡◌, ℕ, Bool, true, Some, slice_get};
+ghost use Rattle.std.specs.Prelude.{◌≡◌, ℕ, Bool, true, false, Some, slice_get};
 ghost use Rattle.b1_model.specs.declared.naming.Opening.{Opening};
 ghost use Rattle.b1_model.specs.Opening.{IsOpening};
 ghost use Rattle.b1_model.specs.declared.commands.Command.{Command};
+ghost use Rattle.b1_model.specs.declared.commands.Command.TheVariants as cmd;
 ghost use Rattle.b1_model.specs.MachineParts.{DriverPart, State};
 ghost use Rattle.b1_model.specs.MachineStep.{Step, stepped, opening_state};
 ghost use Rattle.b1_model.specs.Script.{resolved};
@@ -13,6 +14,7 @@ ghost use Rattle.b1_serial_bus.specs.Commands.{after_command, after_command_of};
 ghost use Rattle.b1_serial_bus.specs.Opening.{opened};
 ghost use Rattle.b1_serial_rest.specs.Rest.{AtRest};
 ghost use Rattle.b1_serial_rest.specs.Alone.{is_alone};
+ghost use Rattle.b1_serial_rest.specs.Unheld.{is_unheld};
 
 /// Before the first command the machine is at rest, and it stands for the serial bus before its first command.
 pub fn a_bus_begins_at_rest()
@@ -38,4 +40,14 @@ pub fn a_command_alone_keeps_rest()
         → is_alone (resolved command y.calls) y ≡ true
         → AtRest o (with_step o m p (beginning (Some command) d) d s)
         (after_command_of m p command bus) }
+{}
+
+/// A HANDLE_RELEASE of a number that no line has is one step of the machine, which leads from rest to rest: the serial
+/// bus then is that after the command.
+pub fn a_refused_release_keeps_rest()
+    ensures kept { (o : Opening) (s : State) (bus : Bus) (p : ℕ) (y : Part) (number : ℕ)
+        (m : Shortage) (t : State)
+        → AtRest o s bus → slice_get bus p ≡ Some y → y.shut ≡ false → is_unheld y number ≡ true
+        → Step o s p (Some (cmd.Release number)) t
+        → AtRest o t (after_command m (cmd.Release number) y bus) }
 {}
