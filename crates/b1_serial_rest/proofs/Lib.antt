@@ -1,0 +1,12 @@
+pub mod Lines
+pub mod Records
+pub mod Wires
+pub mod Living
+pub mod Begins
+pub mod Local
+pub mod Shown
+pub mod Own
+pub mod Kept
+pub mod Done
+pub mod Scheduled
+pub mod Refused

@@ -1,0 +1,4 @@
+pub mod Standing
+pub mod Rest
+pub mod Alone
+pub mod Unheld
