@@ -8,7 +8,7 @@ use Rattle.b1_model.specs.declared.naming.Wire.{Wire}
 use Rattle.b1_model.specs.declared.naming.Opening.{Opening}
 use Rattle.b1_model.specs.Opening.{AreWired, IsOpening, after_wire}
 use Rattle.b1_model.specs.MachineParts.{PeerPart}
-use Rattle.b1_model.specs.MachineStep.{peer_before, peers_before, wire_made, idle_driver, idle_drivers, opening_state}
+use Rattle.b1_model.specs.MachineStep.{peer_before, peers_before, idle_drivers, opening_state}
 use Rattle.b1_model.specs.MachineStep as machine
 use Rattle.b1_step.specs.Rights.{Has}
 use Rattle.b1_step.proofs.Numbers.{opening_numbered}

@@ -16,7 +16,7 @@ use Rattle.b1_model.specs.declared.events.Phase.TheVariants.{Starting}
 use Rattle.b1_model.specs.Names.{is_given}
 use Rattle.b1_model.specs.MachineParts.{PeerPart, DriverPart, State}
 use Rattle.b1_model.specs.MachineTables as tables
-use Rattle.b1_model.specs.MachineReceive.{released_by, released, released_part}
+use Rattle.b1_model.specs.MachineReceive.{released_by, released_part}
 use Rattle.b1_model.specs.MachineReceive as machine
 use Rattle.b1_model.specs.MachineDriver.{phase_action, next_action, peer_of, refused_at}
 use Rattle.b1_model.specs.MachineTook.{took, call_of}

@@ -25,7 +25,7 @@ use Rattle.b1_inv_refs.proofs.Places.{part_there}
 use Rattle.b1_inv_refs.proofs.Wiring.{Peers, Wiring, wiring_made}
 use Rattle.b1_serial_bus.specs.Parts.{OwnNode, Part, Bus, at_peer}
 use Rattle.b1_serial_bus.specs.Named as named
-use Rattle.b1_serial_bus.specs.Named.{line_of, making}
+use Rattle.b1_serial_bus.specs.Named.{making}
 use Rattle.b1_serial_bus.specs.References.{raised, new_line, with_reference}
 use Rattle.b1_serial_bus.specs.Opening.{wire_given}
 use Rattle.b1_serial_bus.specs.Opening as bus
