@@ -1,4 +1,4 @@
--- A command that touches nothing but its own peer leads from rest to rest.
+-- A command of one step that leaves its peer's queue and nodes leads from rest to rest.
 use Rattle.std.proofs.Common.{◌≡◌, refl, sym, ap, ◌∙◌, subst, ℕ, Bool, true, false, cond, ◌||◌, [], Some, None}
 use Rattle.std.specs.Prelude.{slice_get}
 use Rattle.std.proofs.lemmas.Option.{same_Some}

@@ -1,4 +1,4 @@
--- A command that touches nothing but its own peer is one step of the machine.
+-- A SLICE_RELEASE, a PEER_QUERY, a PEER_RESET without flush, and any command of a shut peer, is one step of the machine.
 use Rattle.std.proofs.Common.{◌≡◌, refl, sym, ap, ◌∙◌, ℕ, Bool, true, false, cond, ◌||◌, List, [], ◌∷◌, ◌++◌, Some, None}
 use Rattle.b1_model.specs.declared.naming.Opening.{Opening}
 use Rattle.b1_model.specs.declared.commands.Command.{Command}

@@ -1,4 +1,4 @@
--- The commands that touch nothing but their own peer.
+-- Commands of one step that touch nothing but their own peer and leave its queue and its nodes.
 use Rattle.std.specs.Prelude.{Bool, true, false, ◌||◌}
 use Rattle.b1_model.specs.declared.commands.Command.{Command}
 use Rattle.b1_model.specs.declared.commands.Command.TheVariants as cmd

@@ -21,9 +21,9 @@ pub fn a_bus_begins_at_rest()
     ensures opening { (o : Opening) → IsOpening o → AtRest o (opening_state o) (opened o) }
 {}
 
-/// A command that touches nothing but its own peer is one step of the machine, which leads from rest to rest: the serial
-/// bus then is that after the command. So it is with SLICE_RELEASE, PEER_QUERY, PEER_RESET without flush, and with any
-/// command of a peer that has disconnected. A schedule's step does the same, with the command's references resolved.
+/// A SLICE_RELEASE, a PEER_QUERY, a PEER_RESET without flush, and any command of a peer that has disconnected, is one step
+/// of the machine, which leads from rest to rest: the serial bus then is that after the command. A schedule's step does the
+/// same, with the command's references resolved.
 pub fn a_command_alone_keeps_rest()
     ensures done { (o : Opening) (s : State) (bus : Bus) (p : ℕ) (y : Part)
         (command : Command) (m : Shortage) (memory : Bool)
