@@ -1,5 +1,5 @@
 // A source and a sink in memory, whose calls can be made small and be made to fail.
-ghost use Rattle.std.specs.Prelude.{◌≡◌, ◌<◌, ◌≤◌, ◌↔◌, [], Option, Some, length, take, Contains, IfOk, OnOk, OnErr, IfSome, IsErr};
+ghost use Rattle.std.specs.Prelude.{◌≡◌, ◌<◌, ◌≤◌, ◌↔◌, [], Some, length, take, Contains, IfOk, OnErr, IfSome, IsErr};
 ghost use Rattle.b1_io.specs.Streams.{Rose, Gave, Took};
 ghost use Rattle.b1_io.specs.Held.{given_to, after_read, after_failed_read, taken_of, MustFail, after_write, after_failed_write};
 

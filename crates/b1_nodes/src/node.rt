@@ -1,4 +1,4 @@
-ghost use Rattle.std.specs.Prelude.{◌≡◌, ◌<◌, ◌≤◌, ◌^◌, true, false, length, replicate, slice_index};
+ghost use Rattle.std.specs.Prelude.{◌≡◌, ◌<◌, ◌≤◌, ◌^◌, true, false, length, replicate};
 ghost use Rattle.b1_model.specs.MachineParts.{is_destroyed, is_live as is_living};
 ghost use Rattle.b1_model.specs.MachineTables.{count_of, counted, uncounted, in_state, notice_taken as with_notice_taken, is_unheld as has_no_count};
 ghost use Rattle.b1_model.specs.declared.parts.NodeState.TheVariants.{Live, Dying, Destroyed};

@@ -1,4 +1,4 @@
-ghost use Rattle.std.specs.Prelude.{◌≡◌, ◌≢◌, ◌&&◌, ◌-◌, ◌<◌, ◌≤◌, ◌^◌, [], ◌++◌, ◌∷◌, AllPairs, length, Some, None, IfOk, OnOk, true};
+ghost use Rattle.std.specs.Prelude.{◌≡◌, ◌≢◌, ◌&&◌, ◌-◌, ◌<◌, ◌≤◌, ◌^◌, [], AllPairs, length, Some, None, IfOk, OnOk, true};
 ghost use Rattle.b1_model.specs.declared.parts.NodeState.TheVariants.{Dying, Destroyed};
 ghost use Rattle.b1_model.specs.Names.{is_own};
 ghost use Rattle.b1_model.specs.MachineParts.{is_live, is_dying, is_destroyed};

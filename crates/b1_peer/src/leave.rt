@@ -1,6 +1,6 @@
 //! A queued message leaves a peer.
 
-ghost use Rattle.std.specs.Prelude.{◌≡◌, ◌+◌, ◌-◌, ◌<◌, ◌≤◌, true, drop, length, IsTrue, Some, slice_get, option_map};
+ghost use Rattle.std.specs.Prelude.{◌≡◌, ◌+◌, ◌-◌, ◌≤◌, true, drop, length, IsTrue, Some, slice_get, option_map};
 ghost use Rattle.b1_model.specs.MachineParts.{is_data, carried};
 ghost use Rattle.b1_model.specs.MachinePool.{given_back};
 ghost use Rattle.b1_model.specs.MachineTables.{unexpected, foreign};

@@ -1,14 +1,11 @@
 //! A message arrives at its receiver.
 
-ghost use Rattle.std.specs.Prelude.{◌≡◌, ◌+◌, ◌*◌, ◌<◌, ◌≤◌, ◌^◌, [], true, length, zip, All, IsTrue, vec_capacity, Ok};
+ghost use Rattle.std.specs.Prelude.{◌≡◌, ◌+◌, ◌<◌, ◌≤◌, ◌^◌, [], All, vec_capacity, Ok};
 ghost use Rattle.b1_model.specs.declared.answers.Receipt.TheVariants as receipts;
-ghost use Rattle.b1_model.specs.MachineParts.{PeerPart};
 ghost use Rattle.b1_model.specs.MachinePool.{published};
-ghost use Rattle.b1_model.specs.MachineTables.{foreign};
-ghost use Rattle.b1_peer_pool.specs.Content.{Holds, padded, padded_len, SameElsewhere};
-ghost use Rattle.b1_peer_pool.specs.Slices.{is_queued, len_at};
+ghost use Rattle.b1_peer_pool.specs.Content.{SameElsewhere};
 ghost use Rattle.b1_peer_pool.specs.Stored.{IsStored};
-ghost use Rattle.b1_peer_carried.specs.Carry.{AreCarried, HasTables, may_arrive};
+ghost use Rattle.b1_peer_carried.specs.Carry.{may_arrive};
 ghost use Rattle.b1_peer.specs.Answers.{IsDelivered};
 ghost use Rattle.b1_peer.specs.Arrivals.{Arrives, CanArrive};
 

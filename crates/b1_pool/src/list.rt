@@ -1,6 +1,6 @@
 //! A pool that keeps its slices in a list.
 
-ghost use Rattle.std.specs.Prelude.{◌+◌, ◌-◌, ◌<◌, length, Some, vec_len, if◌then◌else◌};
+ghost use Rattle.std.specs.Prelude.{◌+◌, ◌-◌, length, Some, vec_len};
 ghost use Rattle.std.specs.Vec.{vec_capacity};
 ghost use Rattle.b1_pool.specs.Slices.{IsPool};
 ghost use Rattle.b1_pool.specs.Bytes.{Shown};

@@ -1,7 +1,7 @@
 //! A pool that finds its free slices by size.
 
-ghost use Rattle.std.specs.Prelude.{◌≡◌, ℕ, ◌+◌, ◌-◌, ◌*◌, ◌^◌, ◌<◌, ◌≤◌, List, length, IsTrue, Some};
-ghost use Rattle.b1_pool.specs.Slices.{IsPool, best_fit};
+ghost use Rattle.std.specs.Prelude.{◌≡◌, ◌+◌, ◌-◌, ◌*◌, ◌^◌, ◌≤◌, length, Some};
+ghost use Rattle.b1_pool.specs.Slices.{best_fit};
 ghost use Rattle.b1_poolx.specs.Sizes.{free_count};
 
 use crate::changes::{cancel, release, take};
