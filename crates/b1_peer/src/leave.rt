@@ -34,7 +34,8 @@ pub fn take_back<P: PoolKind>(
     ensures bytes { store.new.bytes ≡ store.old.bytes }
     ensures stored { IsStored store.new }
     ensures handles { handles.new
-        ≡ record handles.old { records = unexpected (foreign me (carried entry)) handles.old.records } }
+        ≡ record handles.old { records = unexpected (foreign me (carried entry))
+            handles.old.records } }
 {
     match entry {
         Entry::Message { offset, with, .. } => {
@@ -64,7 +65,8 @@ pub fn drop_message<P: PoolKind>(
     ensures bytes { store.new.bytes ≡ store.old.bytes }
     ensures stored { IsStored store.new }
     ensures handles { handles.new
-        ≡ record handles.old { records = unexpected (foreign me (carried entry)) handles.old.records } }
+        ≡ record handles.old { records = unexpected (foreign me (carried entry))
+            handles.old.records } }
     ensures items { dead.new.items ≡ with_item (references entry) dead.old.items }
     ensures room { dead.old.room ≤ dead.new.room + 1 }
 {

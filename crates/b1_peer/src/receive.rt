@@ -51,11 +51,13 @@ pub fn receive<P: PoolKind>(
     requires may_arrive { CanArrive me nodes.now store.old handles.old dead.old delivery }
     requires fits { All (λ h. h.held < 2 ^ 62) handles.old.records }
     requires numbered { handles.old.given + MOST_HANDLES < 2 ^ 60 }
-    ensures arrived { Arrives me nodes.now handles.old dead.old delivery.entry result handles.new dead.new }
+    ensures arrived { Arrives me nodes.now handles.old dead.old delivery.entry result handles.new
+        dead.new }
     ensures slices { store.new.slices ≡ published delivery.entry.offset store.old.slices }
     ensures size { store.new.size ≡ store.old.size }
     ensures stored { IsStored store.new }
-    ensures others { SameElsewhere delivery.entry.offset store.old.slices store.old.bytes store.new.bytes }
+    ensures others { SameElsewhere delivery.entry.offset store.old.slices store.old.bytes
+        store.new.bytes }
     ensures delivered { IsDelivered store.new.bytes (Ok result) }
     ensures room { dead.old.room ≤ dead.new.room + 1 }
 {
