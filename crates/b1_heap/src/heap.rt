@@ -20,8 +20,7 @@ pub struct IndexedHeap {
     cells: Vec<(Key, usize)>,
     places: Vec<usize>,
     ghost in_heap: { IsIndexedHeap cells.items places.items } by { Prim.hlevel props },
-    ghost in_order: { IsQueue (length places.items) (in_key_order cells.items) }
-        by { Prim.hlevel props },
+    ghost in_order: { IsQueue (length places.items) (in_key_order cells.items) } by { Prim.hlevel props },
 }
 
 impl QueueKind for IndexedHeap {

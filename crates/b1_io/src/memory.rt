@@ -24,8 +24,13 @@ impl Model for MemSource {
 
     ghost Value = { HeldSource };
 
-    ghost view = { λ s. record { left = drop s.at s.bytes.items; per_call = s.per_call;
-        fails = s.fails.items; calls = s.calls; faults = s.faults } };
+    ghost view = { λ s. record {
+      left = drop s.at s.bytes.items;
+      per_call = s.per_call;
+      fails = s.fails.items;
+      calls = s.calls;
+      faults = s.faults;
+    } };
 
     ghost invariant = { λ s. (s.at ≤ vec_len s.bytes) × (0 < s.per_call) };
 }
@@ -105,8 +110,14 @@ impl Model for MemSink {
 
     ghost Value = { HeldSink };
 
-    ghost view = { λ s. record { taken = s.taken.items; room = s.room; per_call = s.per_call;
-        fails = s.fails.items; calls = s.calls; faults = s.faults } };
+    ghost view = { λ s. record {
+      taken = s.taken.items;
+      room = s.room;
+      per_call = s.per_call;
+      fails = s.fails.items;
+      calls = s.calls;
+      faults = s.faults;
+    } };
 
     ghost invariant = { λ s. (vec_len s.taken ≤ s.room) × (s.room ≤ vec_capacity s.taken)
         × (0 < s.per_call) };

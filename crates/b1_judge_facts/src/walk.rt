@@ -37,8 +37,12 @@ impl<'a> Model for Walk<'a> {
     ghost use Rattle.std.specs.Prelude.{◌≡◌};
     ghost use Rattle.b1_judge_facts.specs.Standing.{standing as standing_at};
 
-    ghost view = { λ w. record { wires = w.opening.now.wires; rec = w.rec.now; peer = w.peer;
-        call = w.call } };
+    ghost view = { λ w. record {
+      wires = w.opening.now.wires;
+      rec = w.rec.now;
+      peer = w.peer;
+      call = w.call;
+    } };
 
     ghost invariant = { λ w. w.standing ≡ standing_at w.opening.now.wires w.rec.now w.peer w.call };
 }

@@ -24,8 +24,12 @@ impl Model for Node {
 
     ghost Value = { NodePart };
 
-    ghost view = { λ n. record { number = n.number; state = n.state;
-        counts = padded n.peers n.counts.items; taken = n.taken } };
+    ghost view = { λ n. record {
+      number = n.number;
+      state = n.state;
+      counts = padded n.peers n.counts.items;
+      taken = n.taken;
+    } };
 
     ghost invariant = { λ n. record {
       few : length n.counts.items ≤ n.peers;

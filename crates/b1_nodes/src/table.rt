@@ -32,8 +32,13 @@ impl Model for NodeTable {
 
     ghost Value = { Nodes };
 
-    ghost view = { λ t. record { owner = t.owner; peers = t.peers; nodes = t.nodes.items;
-        late = t.late; spare = vec_len t.rooms } };
+    ghost view = { λ t. record {
+      owner = t.owner;
+      peers = t.peers;
+      nodes = t.nodes.items;
+      late = t.late;
+      spare = vec_len t.rooms;
+    } };
 
     ghost invariant = { λ t. record {
       few_peers : t.peers ≤ MOST_PEERS;

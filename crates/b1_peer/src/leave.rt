@@ -34,8 +34,10 @@ pub fn take_back<P: PoolKind>(
     ensures bytes { store.new.bytes ≡ store.old.bytes }
     ensures stored { IsStored store.new }
     ensures handles { handles.new
-        ≡ record handles.old { records = unexpected (foreign me (carried entry))
-            handles.old.records } }
+        ≡ record handles.old {
+          records = unexpected (foreign me (carried entry))
+              handles.old.records;
+        } }
 {
     match entry {
         Entry::Message { offset, with, .. } => {
@@ -65,8 +67,10 @@ pub fn drop_message<P: PoolKind>(
     ensures bytes { store.new.bytes ≡ store.old.bytes }
     ensures stored { IsStored store.new }
     ensures handles { handles.new
-        ≡ record handles.old { records = unexpected (foreign me (carried entry))
-            handles.old.records } }
+        ≡ record handles.old {
+          records = unexpected (foreign me (carried entry))
+              handles.old.records;
+        } }
     ensures items { dead.new.items ≡ with_item (references entry) dead.old.items }
     ensures room { dead.old.room ≤ dead.new.room + 1 }
 {

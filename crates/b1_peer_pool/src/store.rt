@@ -30,12 +30,19 @@ impl<P: PoolKind> Model for Store<P> {
 
     ghost Value = { Stored };
 
-    ghost view = { λ s. record { size = s.size; slices = all_in_words (P.slices s.pool);
-        bytes = P.content s.pool; spare = P.spare s.pool } };
+    ghost view = { λ s. record {
+      size = s.size;
+      slices = all_in_words (P.slices s.pool);
+      bytes = P.content s.pool;
+      spare = P.spare s.pool;
+    } };
 
-    ghost invariant = { λ s. IsStored (record { size = s.size;
-        slices = all_in_words (P.slices s.pool); bytes = P.content s.pool;
-        spare = P.spare s.pool }) };
+    ghost invariant = { λ s. IsStored (record {
+      size = s.size;
+      slices = all_in_words (P.slices s.pool);
+      bytes = P.content s.pool;
+      spare = P.spare s.pool;
+    }) };
 }
 
 impl<P: PoolKind> Store<P> {

@@ -173,8 +173,10 @@ impl<Q: QueueKind> Mailbox<Q> {
             self.old.queue }
         ensures found { result ≡ is_some (find (is_stage origin index) self.old.queue) }
         ensures committed { self.new
-            ≡ record self.old { queue = committed_queue (find (is_stage origin index) self.old.queue)
-                origin index stamp slots.now self.old.queue } }
+            ≡ record self.old {
+              queue = committed_queue (find (is_stage origin index) self.old.queue)
+                  origin index stamp slots.now self.old.queue;
+            } }
     {
         self.shelf.commit(origin, index, stamp, slots)
     }

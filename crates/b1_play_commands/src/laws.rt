@@ -25,7 +25,7 @@ pub fn a_play_follows_its_script()
     ensures recorded { (o : Opening) (lists : List (List Command)) (turns : List ℕ) (m : Shortage)
         (count : ℕ) → IsOpening o → ((s : State) → Reached o s → IsSound o s)
         → (p : ℕ) → AllInPlace (commands_of lists p)
-            (calls_of (record_of_state (moves o lists m count (start_of o turns)).state) p) }
+        (calls_of (record_of_state (moves o lists m count (start_of o turns)).state) p) }
     ensures finished { (o : Opening) (lists : List (List Command)) (turns : List ℕ) (m : Shortage)
         (count : ℕ) → IsOpening o → ((s : State) → Reached o s → IsSound o s)
         → (moves o lists m count (start_of o turns)).stage ≡ Finished

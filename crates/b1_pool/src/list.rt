@@ -26,8 +26,11 @@ impl Model for ListPool {
 
     ghost Value = { Shown };
 
-    ghost view = { λ p. record { slices = p.slices.items; bytes = p.bytes.items;
-        spare = vec_capacity p.slices - vec_len p.slices } };
+    ghost view = { λ p. record {
+      slices = p.slices.items;
+      bytes = p.bytes.items;
+      spare = vec_capacity p.slices - vec_len p.slices;
+    } };
 
     ghost invariant = { λ p. IsPool (length p.bytes.items) p.slices.items };
 }

@@ -30,8 +30,11 @@ impl Model for SizedPool {
 
     ghost Value = { Shown };
 
-    ghost view = { λ p. record { slices = p.slices.items; bytes = p.bytes.items;
-        spare = min (vec_capacity p.slices) (vec_capacity p.free) - vec_len p.slices } };
+    ghost view = { λ p. record {
+      slices = p.slices.items;
+      bytes = p.bytes.items;
+      spare = min (vec_capacity p.slices) (vec_capacity p.free) - vec_len p.slices;
+    } };
 
     ghost invariant = { λ p. IsSized (length p.bytes.items) p.slices.items p.free.items
         (vec_capacity p.free) };
