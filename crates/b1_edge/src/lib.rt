@@ -3,6 +3,8 @@
 
 mod gate;
 mod hold;
+mod port;
 
 pub use gate::{Gate, OpenGate, Point};
 pub use hold::HoldGate;
+pub use port::Port;
