@@ -102,7 +102,7 @@ none_goes o m f idle moves = let step = moves.step in cc (sym (ap (λ b. option_
 goes_on : (o : Opening) (d : DriverPart) (c : Command) (n : ℕ) (m f : DriverPart) → Stage d c m → GoesOn o n m f → Stage d c f
 goes_on o d c zero m f k same = subst (Stage d c) same k
 goes_on o d c (suc n) m f k (l, before, moves) = elim (goes_on o d c n m l k before) [
-  | inl open ↦ next_stage o d c l f open moves
+  | inl under ↦ next_stage o d c l f under moves
   | inr over ↦ absurd (none_goes o l f over.doing moves)
 ]
 
@@ -151,26 +151,34 @@ module _ (d : DriverPart) (c : Command) (e : DriverPart) (over : IsOver d c e) (
   over_by false is =
       let calls : e.calls ≡ d.calls ++ record { command = as_call c; answer = over.got } ∷ [] = over.calls ∙ ap (λ b. d.calls ++ cond b [] (record { command = as_call c; answer = over.got } ∷ [])) is in
       let same = subst (λ b. AttemptBy b d (shown e)) is over.right.attempt in
-      inl (over.got, record {
-        calls = calls;
-        kind = all (length d.calls) (record { command = as_call c; answer = over.got }) (ap (λ l. slice_get l (length d.calls)) calls ∙ last_is d.calls (record { command = as_call c; answer = over.got }));
-        taken = is;
-        refused = over.right.refused;
-        shutdown = over.right.shutdown;
-        shut = over.right.shut;
-        attempted = same.0;
-        attempts = same.1;
-      })
+      inl (
+        over.got,
+        record {
+          calls = calls;
+          kind = all (length d.calls) (record { command = as_call c; answer = over.got }) (ap (λ l. slice_get l (length d.calls)) calls ∙ last_is d.calls (record { command = as_call c; answer = over.got }));
+          taken = is;
+          refused = over.right.refused;
+          shutdown = over.right.shutdown;
+          shut = over.right.shut;
+          attempted = same.0;
+          attempts = same.1;
+        },
+      )
   over_by true is =
       let (front, removed, attempted, attempts) = subst (λ b. AttemptBy b d (shown e)) is over.right.attempt in
       let open_at : d.shut ≡ false = sym over.right.shutdown ∙ waits_open c over.got is in
-      inr (await_is c over.got is, front, removed, record {
-        calls = over.calls ∙ ap (λ b. d.calls ++ cond b [] (record { command = as_call c; answer = over.got } ∷ [])) is ∙ append-nil d.calls;
-        open_at = open_at;
-        shut = over.right.shut ∙ ap (λ b. b || leaves c over.got) open_at ∙ ap (λ z. leaves z over.got) (await_is c over.got is) ∙ await_stays over.got;
-        attempted = attempted;
-        attempts = attempts;
-      })
+      inr (
+        await_is c over.got is,
+        front,
+        removed,
+        record {
+          calls = over.calls ∙ ap (λ b. d.calls ++ cond b [] (record { command = as_call c; answer = over.got } ∷ [])) is ∙ append-nil d.calls;
+          open_at = open_at;
+          shut = over.right.shut ∙ ap (λ b. b || leaves c over.got) open_at ∙ ap (λ z. leaves z over.got) (await_is c over.got is) ∙ await_stays over.got;
+          attempted = attempted;
+          attempts = attempts;
+        },
+      )
     where
       await_stays : (got : Answer) → leaves cmd.Await got ≡ false
       await_stays (answer.Refused b) = refl

@@ -1,5 +1,5 @@
 -- Which reasons refuse a command at its first event, and a destination of a SEND.
-use Rattle.std.proofs.Common.{◌≡◌, ◌⊎◌, refl, sym, ap, ◌∙◌, inl, inr, subst, ℕ, Bool, true, false, cond, not, List, [], ◌∷◌, map, find, filter, length, nat_lt, nat_le, Option, Some, None, Ok, Err, Result, option_map}
+use Rattle.std.proofs.Common.{◌≡◌, ◌⊎◌, refl, sym, ap, ◌∙◌, inl, inr, subst, ℕ, ◌==◌, Bool, true, false, cond, not, List, [], ◌∷◌, map, find, filter, length, nat_lt, nat_le, Option, Some, None, Ok, Err, Result, option_map}
 use Rattle.std.specs.Bool.{then_some}
 use Rattle.std.proofs.lemmas.Option.{same_Some}
 use Rattle.b1_model.specs.declared.naming.NodeRef.{NodeRef}
@@ -12,11 +12,12 @@ use Rattle.b1_model.specs.declared.commands.Command.TheVariants as cmd
 use Rattle.b1_model.specs.declared.commands.SendCmd.{SendCmd}
 use Rattle.b1_model.specs.declared.parts.Owed.{Owed}
 use Rattle.b1_model.specs.Names.{is_own, is_given}
-use Rattle.b1_model.specs.MachineParts.{PeerPart, HandleRecord}
-use Rattle.b1_model.specs.MachineTables.{over_quota, serial_of, is_number}
-use Rattle.b1_model.specs.MachineSend.{first_reason, send_refusal, stage_refusal, dead_reason, is_unknown, unknown_reason}
+use Rattle.b1_model.specs.MachineParts.{PeerPart, HandleRecord, is_destroyed, node_at}
+use Rattle.b1_model.specs.MachineTables.{over_quota, serial_of, is_number, charged, limit_of, amount, within_quota}
+use Rattle.b1_model.specs.MachineSend.{first_reason, send_reasons, send_refusal, stage_reasons, stage_refusal, dead_reason, is_unknown, unknown_reason}
 use Rattle.b1_model.specs.MachineReceive.{released_by, released}
-use Rattle.b1_model.specs.MachineDestroy.{overflow_reason, destroy_refusal, is_not_live}
+use Rattle.b1_model.specs.MachineDestroy.{overflow_reason, destroy_refusal, is_not_live, is_bad_destroy}
+use Rattle.b1_model.specs.MachinePool.{slice_len, largest_free}
 use Rattle.b1_commands.specs.Done.{may_refuse, is_shut_reason}
 use Rattle.b1_model.specs.MachineTook.{is_again}
 
@@ -61,15 +62,15 @@ module _ (s : SendCmd) where
   dead_right : (x : PeerPart) (number : ℕ) → IfRight send (dead_reason x number)
   dead_right x number = by (is_own number) (serial_of number x.nodes) (find (is_number number) x.handles)
     where
-      own : (serial : Option ℕ) → IfRight send (elim serial as (λ z. Option Reason) [ None ↦ None | Some one ↦ then_some _ (reason.Gone x.me one) ])
+      own : (serial : Option ℕ) → IfRight send (elim serial as (λ z. Option Reason) [ None ↦ None | Some one ↦ then_some (is_destroyed (node_at x one).state) (reason.Gone x.me one) ])
       own None = tt
-      own (Some one) = then_right send _ (reason.Gone x.me one) (right send (reason.Gone x.me one) refl refl refl)
+      own (Some one) = then_right send (is_destroyed (node_at x one).state) (reason.Gone x.me one) (right send (reason.Gone x.me one) refl refl refl)
 
       given : (h : Option HandleRecord) → IfRight send (elim h as (λ z. Option Reason) [ None ↦ None | Some one ↦ then_some one.dead (reason.Gone one.node.owner one.node.serial) ])
       given None = tt
       given (Some one) = then_right send one.dead (reason.Gone one.node.owner one.node.serial) (right send (reason.Gone one.node.owner one.node.serial) refl refl refl)
 
-      by : (b : Bool) (serial : Option ℕ) (h : Option HandleRecord) → IfRight send (cond b (elim serial as (λ z. Option Reason) [ None ↦ None | Some one ↦ then_some _ (reason.Gone x.me one) ]) (elim h as (λ z. Option Reason) [ None ↦ None | Some one ↦ then_some one.dead (reason.Gone one.node.owner one.node.serial) ]))
+      by : (b : Bool) (serial : Option ℕ) (h : Option HandleRecord) → IfRight send (cond b (elim serial as (λ z. Option Reason) [ None ↦ None | Some one ↦ then_some (is_destroyed (node_at x one).state) (reason.Gone x.me one) ]) (elim h as (λ z. Option Reason) [ None ↦ None | Some one ↦ then_some one.dead (reason.Gone one.node.owner one.node.serial) ]))
       by true serial h = own serial
       by false serial h = given h
 
@@ -81,7 +82,7 @@ module _ (s : SendCmd) where
   unknown n = right send (reason.Unknown n) refl refl refl
 
   pub send_right : (x : PeerPart) (c : SendCmd) → IfRight send (send_refusal x c)
-  send_right x c = first_right send _ (
+  send_right x c = first_right send (send_reasons x c) (
     then_right send _ reason.Invalid (right send reason.Invalid refl refl refl),
     then_right send _ (reason.Size (length c.payload)) (right send (reason.Size (length c.payload)) refl refl refl),
     then_right send _ (reason.Overflow x.clock) (right send (reason.Overflow x.clock) refl refl refl),
@@ -92,20 +93,22 @@ module _ (s : SendCmd) where
   )
 
   quota_right : (x : PeerPart) (user payload handles : ℕ) (what : Quantity) → IfRight send (over_quota x user payload handles what)
-  quota_right x user payload handles what = by _ _
+  quota_right x user payload handles what =
+      by (within_quota (user == x.user) (charged what (λ u. u == user) x.queue) (charged what (λ u. not (u == user)) x.queue) (limit_of what x.limits) (amount what payload handles))
+      (charged what (λ u. u == user) x.queue) (charged what (λ u. not (u == user)) x.queue) (limit_of what x.limits) (amount what payload handles)
     where
-      by : (b : Bool) (r : Reason) → (r ≡ reason.Quota what _ _ _ _) → IfRight send (cond b None (Some r))
-      by true r is = tt
-      by false r is = subst (IsRight send) (sym is) (right send _ refl refl refl)
+      by : (b : Bool) (own others limit asked : ℕ) → IfRight send (cond b None (Some (reason.Quota what own others limit asked)))
+      by true own others limit asked = tt
+      by false own others limit asked = right send (reason.Quota what own others limit asked) refl refl refl
 
   pub stage_right : (x : PeerPart) (user serial payload handles : ℕ) → IfRight send (stage_refusal x user serial payload handles)
-  stage_right x user serial payload handles = first_right send _ (
+  stage_right x user serial payload handles = first_right send (stage_reasons x user serial payload handles) (
     then_right send _ (reason.Gone x.me serial) (right send (reason.Gone x.me serial) refl refl refl),
     then_right send _ (reason.Overflow x.clock) (right send (reason.Overflow x.clock) refl refl refl),
     quota_right x user payload handles Entries,
     quota_right x user payload handles Bytes,
     quota_right x user payload handles Handles,
-    then_right send _ (reason.Full _ _) (right send (reason.Full _ _) refl refl refl),
+    then_right send _ (reason.Full (slice_len payload handles) (largest_free x.slices)) (right send (reason.Full (slice_len payload handles) (largest_free x.slices)) refl refl refl),
     tt,
   )
 
@@ -120,7 +123,7 @@ overflow_right c x may = then_right c _ (reason.Overflow x.clock) (right c (reas
 pub destroy_right : (numbers : List ℕ) (x : PeerPart) (others : List ℕ) → IfRight (cmd.Destroy numbers) (destroy_refusal x others)
 destroy_right numbers x others =
     let c : Command = cmd.Destroy numbers in
-    first_right c _ (
+    first_right c (then_some (is_bad_destroy others) reason.Invalid ∷ overflow_reason x ∷ option_map (λ number. reason.Unknown number) (find (is_not_live x) others) ∷ []) (
       then_right c _ reason.Invalid (right c reason.Invalid refl refl refl),
       overflow_right c x refl,
       found_right c (find (is_not_live x) others) (λ n. right c (reason.Unknown n) refl refl refl),
