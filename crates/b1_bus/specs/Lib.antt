@@ -1,4 +1,4 @@
-pub mod Faces
+pub use Rattle.b1_locks.specs.Faces
 pub use Rattle.b1_event.specs.Borne
 pub use Rattle.b1_model.specs.Legal
 pub use Rattle.b1_model.specs.MachineParts

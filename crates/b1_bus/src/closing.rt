@@ -2,10 +2,9 @@ ghost use Rattle.std.specs.Prelude.{◌≡◌, ◌<◌, [], length, map, IfOk, A
 ghost use Rattle.b1_model.specs.Legal.{Legal};
 ghost use Rattle.b1_model.specs.MachineStep.{record_of_state, Reached};
 ghost use Rattle.b1_rule.specs.Rule.{state_of, LedTo};
-ghost use Rattle.b1_bus.specs.Faces.{crew, members, part_at};
+ghost use Rattle.b1_locks.specs.Faces.{crew, members, part_at};
 
-use crate::bus::{Bus, Peer};
-use crate::driver::Driver;
+use crate::kinds::{Bus, Driver, Peer};
 use b1_driver::DriverState;
 use b1_model::{Opening, PeerCalls, Record};
 use std::alloc::{AllocError, Global};
@@ -24,7 +23,7 @@ pub struct Closed {
 
 impl Model for Closed {
     ghost use Rattle.std.specs.Prelude.{◌≡◌, ◌≤◌, [], length, vec_capacity};
-    ghost use Rattle.b1_bus.specs.Faces.{ClosedFace, IsClosed};
+    ghost use Rattle.b1_locks.specs.Faces.{ClosedFace, IsClosed};
 
     ghost Value = { ClosedFace };
 

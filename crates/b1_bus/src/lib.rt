@@ -4,12 +4,10 @@
 //! is to use it. `close` takes them all back, and gives the state that they have led to.
 #![tactic(auto)]
 
-mod bus;
 mod closing;
-mod driver;
+mod kinds;
 mod making;
 
-pub use bus::Bus;
 pub use closing::{Closed, close};
-pub use driver::Driver;
+pub use kinds::{Bus, Driver};
 pub use making::make;

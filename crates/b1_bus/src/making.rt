@@ -1,10 +1,9 @@
 ghost use Rattle.std.specs.Prelude.{◌≡◌, map, IfOk, All};
 ghost use Rattle.b1_model.specs.Opening.{IsOpening};
 ghost use Rattle.b1_model.specs.MachineStep.{opening_state};
-ghost use Rattle.b1_bus.specs.Faces.{crew, members};
+ghost use Rattle.b1_locks.specs.Faces.{crew, members};
 
-use crate::bus::Bus;
-use crate::driver::Driver;
+use crate::kinds::{Bus, Driver};
 use b1_model::Opening;
 use std::alloc::{AllocError, Global};
 
