@@ -143,7 +143,7 @@ pub slot_of : (o : Opening) (before : Holding) (command : Option Command) (m : S
 slot_of o before command m q d k = ap (λ z. z.1) k.took.after ∙ ap (λ l. (q, k.took.seen) ∷ rest l) (sym (ap (λ z. z.1) k.took.after))
 
 pub slot_is : (m : List (ℕ × PeerSeen)) (q : ℕ) (x y : PeerSeen) → m ≡ (q, x) ∷ rest m → m ≡ (q, y) ∷ rest m → x ≡ y
-slot_is m q x y one other = ap (λ l. (get_or l 0 (q, x)).1) (sym one ∙ other)
+slot_is m q x y one other = ap (λ (l : List (ℕ × PeerSeen)). (get_or l 0 (q, x)).1) (sym one ∙ other)
 
 -- what was written goes home
 pub stepped_here : (o : Opening) (bears : Bears) (before : Holding) (command : Option Command) (m : Sat) (q : ℕ) (d : Driver) (k : HasLock o before command m q d) (e : Driver) (y : PeerSeen) → Does o d k.took.seen e y → (n : Sat) → n ≡ (m.0, (q, y) ∷ rest m.1) → HasStepped n q (holding e)
