@@ -8,9 +8,10 @@ ghost use Rattle.b1_locks.specs.Locks.{HasBegun, HasLock, HasMoved, HasStepped, 
 
 use crate::bus::{Bus, Place};
 use crate::driver::Hand;
+use crate::short::do_one;
 use b1_driver::DriverState;
 use b1_edge::{Gate, Point};
-use b1_event::{do_event, reached_states_bear_events};
+use b1_event::reached_states_bear_events;
 use b1_model::Action;
 use b1_pool::PoolKind;
 use b1_queue::QueueKind;
@@ -18,12 +19,13 @@ use std::marker::Brand;
 use std::sync::Wait;
 
 /// One event of a driver whose command is open: it takes the lock of the peer where the event is, works on the peer's
-/// state, and gives the lock back.
+/// state, and gives the lock back. Where `short`, a SEND that begins is refused for want of memory if nothing else refuses it.
 pub fn event<Q: QueueKind, P: PoolKind, R: Wait, G: Gate>(
     rt: &R,
     bus: &Bus<Q, P>,
     gate: &G,
     hand: &mut Hand<Q, P>,
+    short: bool,
 )
     requires table { hand.old.seat.table_id ≡ bus.now.table }
     requires begun { MayStep bus.now.opening hand.old.seat.me hand.old.state }
@@ -43,7 +45,7 @@ pub fn event<Q: QueueKind, P: PoolKind, R: Wait, G: Gate>(
         driver: me,
         peer: at,
     });
-    bus.work(&mut hand.seat, &mut hand.state, at as usize);
+    bus.work(&mut hand.seat, &mut hand.state, at as usize, short);
     bus.unlock::<Brand>(&mut hand.seat, at as usize, &hand.state);
     gate.at(Point::Between {
         driver: me,
@@ -54,7 +56,7 @@ pub fn event<Q: QueueKind, P: PoolKind, R: Wait, G: Gate>(
 
 impl<Q: QueueKind, P: PoolKind> Bus<Q, P> {
     // The work of an event, on the state of the peer whose lock the seat has.
-    fn work(&self, seat: &mut Place<Q, P>, driver: &mut DriverState, at: usize)
+    fn work(&self, seat: &mut Place<Q, P>, driver: &mut DriverState, at: usize, short: bool)
         requires table { seat.old.table_id ≡ self.now.table }
         requires lock { MayWork self.now.opening seat.old.me at driver.old }
         ensures table { seat.new.table_id ≡ seat.old.table_id }
@@ -67,7 +69,7 @@ impl<Q: QueueKind, P: PoolKind> Bus<Q, P> {
         reached_states_bear_events();
         let peer = seat.slot_mut(&self.table.shared, at);
         peer.facts();
-        do_event(&self.opening, driver, peer);
+        do_one(&self.opening, driver, peer, short);
     }
 }
 

@@ -9,6 +9,8 @@ mod bus;
 mod driver;
 mod event;
 mod locks;
+mod run;
+mod short;
 
 pub use bus::{Board, Bus, Place};
 pub use driver::Driver;
