@@ -40,7 +40,11 @@ impl<Q: QueueKind, P: PoolKind> Model for Core<Q, P> {
 
     ghost Value = { Bus };
 
-    ghost view = { λ c. record { opening = c.opening; commands = c.commands; state = state_of c.peers.items c.drivers.items } };
+    ghost view = { λ c. record {
+      opening = c.opening;
+      commands = c.commands;
+      state = state_of c.peers.items c.drivers.items;
+    } };
 
     ghost invariant = { λ c. record {
       core : IsCore c.opening c.commands c.peers.items c.drivers.items;

@@ -97,7 +97,8 @@ pub fn turn<Q: QueueKind, P: PoolKind>(
     requires peer { p < length opening.now.peers }
     requires begins { Begins command (state_of peers.old.items drivers.old.items) p }
     ensures step { IfOk result (λ turn.
-        IsStep opening.now (state_of peers.old.items drivers.old.items) p command turn (state_of peers.new.items drivers.new.items)) }
+        IsStep opening.now (state_of peers.old.items drivers.old.items) p command turn
+        (state_of peers.new.items drivers.new.items)) }
     ensures stocked { AreStocked opening.now peers.new.items drivers.new.items }
     ensures peers { OnErr result (peers.new.items ≡ peers.old.items) }
     ensures drivers { OnErr result (drivers.new.items ≡ drivers.old.items) }

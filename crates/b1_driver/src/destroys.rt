@@ -66,7 +66,8 @@ fn is_flushing(command: &Command) -> bool
 /// A destruction commits from a place of its peers on; then NODES_DESTROY is done, and the others flush.
 pub fn committing_notices(command: &Command, visits: Visits, stamp: u64, place: usize) -> After
     ensures turn { (doomed : List ℕ)
-        → turn_of doomed result ≡ committing_notices command.now (with_doomed doomed visits) stamp place }
+        → turn_of doomed result
+        ≡ committing_notices command.now (with_doomed doomed visits) stamp place }
     ensures holds { IsAfter result }
     ensures handles { handles_after result ≡ 0 }
 {

@@ -279,7 +279,6 @@ impl DriverState {
         };
         self.facts.note(&command, &outcome);
         let after = answered(
-            self.alloc,
             self.me,
             &command,
             stage,

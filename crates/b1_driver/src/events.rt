@@ -20,11 +20,9 @@ use crate::sent::{
 };
 use crate::stage::{After, Stage};
 use b1_model::{Command, Dead, Outcome};
-use std::alloc::Global;
 
 /// What an event's answer makes of an open command: where it stands then, and which drops are owed.
 pub fn answered(
-    alloc: Global,
     me: u32,
     command: &Command,
     stage: Stage,
@@ -49,6 +47,7 @@ pub fn answered(
     ensures drops { room.new.handles ≤ owing.new.room }
     ensures here { hands_back outcome ≡ false → vec_capacity doomed.new ≡ vec_capacity doomed.old }
 {
+    let alloc = *doomed.allocator();
     match outcome {
         Outcome::Begin(got) => begin_answered(alloc, stage, got, room),
         Outcome::Stage(got) => stage_answered(command, stage, got),

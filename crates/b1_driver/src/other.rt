@@ -46,7 +46,8 @@ pub fn release_answered(
     ensures holds { IsAfter result }
     ensures handles { handles_after result ≤ handles_in stage }
     ensures owed { (doomed : List ℕ)
-        → owing.new.drops ≡ owed_after me (phase_of doomed stage) owing.old.drops (out.Release got) }
+        → owing.new.drops
+        ≡ owed_after me (phase_of doomed stage) owing.old.drops (out.Release got) }
     ensures kept { owing.new.room ≡ owing.old.room }
 {
     match got {

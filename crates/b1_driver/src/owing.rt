@@ -23,7 +23,10 @@ impl Model for Owing {
 
     ghost Value = { Owed };
 
-    ghost view = { λ o. record { drops = drops_of o.holder o.clock (o.references.items ++ o.item); room = vec_capacity o.references } };
+    ghost view = { λ o. record {
+      drops = drops_of o.holder o.clock (o.references.items ++ o.item);
+      room = vec_capacity o.references;
+    } };
 
     ghost invariant = { λ o. 1 ≤ vec_capacity o.references };
 }

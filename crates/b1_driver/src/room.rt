@@ -20,7 +20,11 @@ impl Model for SendRoom {
 
     ghost Value = { Room };
 
-    ghost view = { λ r. record { places = vec_capacity r.places; lists = vec_len r.slots; handles = r.handles } };
+    ghost view = { λ r. record {
+      places = vec_capacity r.places;
+      lists = vec_len r.slots;
+      handles = r.handles;
+    } };
 
     ghost invariant = { λ r. record {
       empty : r.places.items ≡ [];

@@ -139,7 +139,8 @@ pub fn commit_answered(stage: Stage, found: bool, owing: &mut Owing) -> After
     ensures holds { IsAfter result }
     ensures handles { handles_after result ≤ handles_in stage }
     ensures owed { (me : ℕ) (doomed : List ℕ)
-        → owing.new.drops ≡ owed_after me (phase_of doomed stage) owing.old.drops (out.Commit found) }
+        → owing.new.drops
+        ≡ owed_after me (phase_of doomed stage) owing.old.drops (out.Commit found) }
     ensures kept { owing.new.room ≡ owing.old.room }
 {
     match stage {

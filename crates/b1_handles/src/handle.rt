@@ -29,7 +29,14 @@ impl Model for Handle {
 
     ghost Value = { HandleRecord };
 
-    ghost view = { λ h. record { node = h.node; number = h.number; held = h.held; flight = h.flight; dead = h.dead; notice = h.notice } };
+    ghost view = { λ h. record {
+      node = h.node;
+      number = h.number;
+      held = h.held;
+      flight = h.flight;
+      dead = h.dead;
+      notice = h.notice;
+    } };
 
     ghost invariant = { λ h. is_some h.number ≡ nat_lt 0 h.held };
 }

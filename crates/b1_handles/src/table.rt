@@ -71,7 +71,8 @@ impl HandleTable {
     /// One fewer queued slot carries a node. At least one must carry it. A record that isn't needed any more goes.
     pub fn unexpect(&mut self, node: NodeRef)
         requires { 0 < (record_or_none node self.old.records).flight }
-        ensures { self.new ≡ record self.old { records = changed node less_flight self.old.records } }
+        ensures { self.new
+            ≡ record self.old { records = changed node less_flight self.old.records } }
     {
         unexpect_in(&mut self.records, node);
     }

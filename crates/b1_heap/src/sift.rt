@@ -1,6 +1,4 @@
-ghost use Rattle.std.specs.Prelude.{◌≡◌, ◌≢◌, ℕ, ◌+◌, ◌*◌, ◌^◌, ◌-◌, ◌<◌, ◌≤◌, length, slice_index, slice_index_or, swap, IfSome, IfNone, IsPermutation};
-ghost use Rattle.std.specs.declared.cmp.Ordering.TheVariants.{Less};
-ghost use Rattle.b1_model.specs.Keys.{compare_keys};
+ghost use Rattle.std.specs.Prelude.{◌≡◌, ◌≢◌, ℕ, ◌+◌, ◌*◌, ◌^◌, ◌-◌, ◌<◌, ◌≤◌, length, swap, IfSome, IfNone, IsPermutation};
 ghost use Rattle.b1_queue.specs.Queue.{is_before as stands_before};
 ghost use Rattle.b1_heap.specs.Heap.{AreApart, IsHeap, IsIndexed, parent};
 ghost use Rattle.b1_heap.specs.Sift.{IsLeastChild, MovesAt, RisesAt, SinksAt};

@@ -1,7 +1,6 @@
 -- Staged own notices stand apart in every reached state; so an owner's staged notices have places of their own.
-use Rattle.std.proofs.Common.{◌≡◌, ◌≢◌, refl, sym, ap, ◌∙◌, arith, inl, inr, subst, ℕ, suc, ◌%◌, ◌==◌, Bool, true, false, cond, if◌then◌else◌, ◌&&◌, not, List, [], ◌∷◌, filter, slice_get, Option, Some, None}
-use Rattle.std.specs.List.{All, AllPairs}
-use Rattle.std.proofs.lemmas.List.Elements.{All-nil, All-cons}
+use Rattle.std.proofs.Common.{◌≡◌, ◌≢◌, refl, sym, ap, ◌∙◌, arith, inl, inr, subst, ℕ, suc, ◌==◌, Bool, true, false, cond, if◌then◌else◌, ◌&&◌, not, List, [], ◌∷◌, filter, slice_get, Option, Some, None}
+use Rattle.std.specs.List.{AllPairs}
 use Rattle.std.proofs.lemmas.List.Kept.{AllPairs-cons}
 use Rattle.b1_step.proofs.Lists.{has_filter, filter_has, has_all, all_has}
 use Rattle.std.proofs.lemmas.Bool.{eqb-true}

@@ -18,11 +18,10 @@ use Rattle.b1_model.specs.MachineDriver.{Turn, Goes, Ends, turn}
 use Rattle.b1_model.specs.MachineTook.{is_await, is_waiting, as_call, call_of, goes_by, is_done, answer_of, turned, with_facts, fixed_call, open_by, driver_calls}
 use Rattle.b1_model.specs.MachineEvents.{happens}
 use Rattle.b1_model.specs.MachineStep.{Step}
-use Rattle.b1_step.specs.Fixed.{AtMostOneMore}
 use Rattle.b1_step.proofs.Locality.{step_adds}
 use Rattle.b1_inv.specs.Words.{IsPeer}
 use Rattle.b1_inv.specs.Sends.{SendShape, IsSend}
-use Rattle.b1_inv.specs.Notices.{DestructionShape, IsDestroying}
+use Rattle.b1_inv.specs.Notices.{DestructionShape}
 use Rattle.b1_inv.specs.Bounds.{calls_begun}
 use Rattle.b1_inv.specs.Sound.{IsSound}
 use Rattle.b1_inv_tools.proofs.Leaves.{Did, step_did}

@@ -8,11 +8,11 @@ use Rattle.b1_model.specs.declared.naming.Opening.{Opening}
 use Rattle.b1_model.specs.declared.parts.NodeState.TheVariants.{Live, Destroyed}
 use Rattle.b1_model.specs.Names.{is_own}
 use Rattle.b1_model.specs.Opening.{IsOpening}
-use Rattle.b1_model.specs.MachineParts.{PeerPart, DriverPart, NodePart, no_node, clock_limit}
+use Rattle.b1_model.specs.MachineParts.{PeerPart, NodePart, no_node, clock_limit}
 use Rattle.b1_model.specs.MachineTables.{counted, with_made}
 use Rattle.b1_model.specs.MachineStep.{opening_state, wire_made, wire_counted, wire_held}
 use Rattle.b1_step.specs.Rights.{Has}
-use Rattle.b1_inv.specs.Words.{IsPeer, fixed_stamp, stamp_of_phase}
+use Rattle.b1_inv.specs.Words.{IsPeer}
 use Rattle.b1_inv.specs.Clocks.{ClocksRight, IsClock, clock_bound}
 use Rattle.b1_inv_tools.proofs.Openings.{opening_each, opening_idle}
 use Rattle.b1_inv_notices.proofs.Sets.{has_index, has_at_place}

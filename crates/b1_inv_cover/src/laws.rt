@@ -2,12 +2,13 @@ ghost use Rattle.std.specs.Prelude.{List, Option, ℕ};
 ghost use Rattle.b1_model.specs.declared.commands.Command.{Command};
 ghost use Rattle.b1_model.specs.declared.naming.Opening.{Opening};
 ghost use Rattle.b1_model.specs.MachineParts.{State};
-ghost use Rattle.b1_model.specs.MachineStep.{Label, Leads, Reached, Step, opening_state};
+ghost use Rattle.b1_model.specs.MachineStep.{Label, Leads, Reached, Step};
 ghost use Rattle.b1_model.specs.Opening.{IsOpening};
 ghost use Rattle.b1_step.specs.Laws.{EachStep};
 ghost use Rattle.b1_inv.specs.Sound.{IsSound};
 ghost use Rattle.b1_inv_cover.specs.Bounded.{ClocksBounded};
 ghost use Rattle.b1_inv_cover.specs.Given.{GivenRises, NumbersStay};
+ghost use Rattle.b1_inv.specs.Kept.{BeginsWith};
 ghost use Rattle.b1_inv_record.specs.Right.{ClocksCover};
 
 /// Every bus begins with its clocks covering what they should, and a step keeps them so: so it is of every reached state. Every committed entry and every
@@ -16,7 +17,7 @@ ghost use Rattle.b1_inv_record.specs.Right.{ClocksCover};
 /// above the clock of its peer and what its command has collected; and an owed drop has its SEND's stamp, or a clock of
 /// the driver's own peer.
 pub fn clocks_cover()
-    ensures opening { (o : Opening) → IsOpening o → ClocksCover (opening_state o) }
+    ensures opening { BeginsWith (λ _. ClocksCover) }
     ensures kept { (o : Opening) (s : State) (p : ℕ) (c : Option Command) (t : State) → IsSound o s
         → ClocksCover s
         → Step o s p c t → ClocksCover t }

@@ -1,22 +1,21 @@
 ghost use Rattle.std.specs.Prelude.{ℕ, Option};
 ghost use Rattle.b1_model.specs.declared.naming.Opening.{Opening};
 ghost use Rattle.b1_model.specs.declared.commands.Command.{Command};
-ghost use Rattle.b1_model.specs.Opening.{IsOpening};
 ghost use Rattle.b1_model.specs.MachineParts.{State};
-ghost use Rattle.b1_model.specs.MachineStep.{Step, opening_state};
+ghost use Rattle.b1_model.specs.MachineStep.{Step};
 ghost use Rattle.b1_inv.specs.Sound.{IsSound};
 ghost use Rattle.b1_inv_ends.specs.Notices.{NoticesOnce, OneNotice};
 ghost use Rattle.b1_inv_ends.specs.Refused.{QueuesNeedAll, RefusedLeavesNothing};
 ghost use Rattle.b1_inv_ends.specs.Holders.{HoldersServed, LateByAttach};
+ghost use Rattle.b1_inv.specs.Kept.{BeginsWith};
+ghost use Rattle.b1_inv_record.specs.Kept.{KeptFromRight};
 ghost use Rattle.b1_inv_record.specs.Right.{DestructionsRight, IsRight};
 
 /// A step keeps all that is said of destructions and their notices: which nodes are destroyed, what open destructions
 /// doom, and where each notice is or was taken. Every bus begins so.
 pub fn destructions_stay_right()
-    ensures opening_DestructionsRight { (o : Opening) → IsOpening o
-        → DestructionsRight o (opening_state o) }
-    ensures kept_DestructionsRight { (o : Opening) (s : State) (p : ℕ) (c : Option Command)
-        (t : State) → IsSound o s → IsRight o s → Step o s p c t → DestructionsRight o t }
+    ensures opening_DestructionsRight { BeginsWith DestructionsRight }
+    ensures kept_DestructionsRight { KeptFromRight DestructionsRight }
 {}
 
 /// Once all commits of a node's destruction are done, each holder of the node has its notice committed in its queue, or

@@ -14,29 +14,28 @@ use Rattle.b1_model.specs.declared.parts.NodeState.{NodeState}
 use Rattle.b1_model.specs.declared.parts.NodeState.TheVariants.{Live, Dying, Destroyed}
 use Rattle.b1_model.specs.declared.parts.Slot.TheVariants as slot
 use Rattle.b1_model.specs.declared.entries.Entry.{Entry}
-use Rattle.b1_model.specs.declared.events.Doing.{Doing}
 use Rattle.b1_model.specs.declared.events.OwedDrop.{OwedDrop}
 use Rattle.b1_model.specs.declared.events.Outcome.TheVariants as out
 use Rattle.b1_model.specs.declared.events.Phase.{Phase}
-use Rattle.b1_model.specs.declared.events.Phase.TheVariants.{Starting, Attaching}
-use Rattle.b1_model.specs.MachineParts.{PeerPart, DriverPart, HandleRecord, State, is_live, is_dying, is_staged, node_at, no_record, same_ref, record_of, record_or_none, carried, slots_of}
+use Rattle.b1_model.specs.declared.events.Phase.TheVariants.{Attaching}
+use Rattle.b1_model.specs.MachineParts.{PeerPart, DriverPart, HandleRecord, State, is_live, is_dying, is_staged, node_at, no_record, same_ref, record_of, record_or_none, carried}
 use Rattle.b1_model.specs.MachineTables.{with_peer, counted}
 use Rattle.b1_model.specs.MachineSend.{attach_by, attach_answer, attached_by}
 use Rattle.b1_model.specs.MachineDriver.{next_action, peer_of, node_of_place, no_ref}
 use Rattle.b1_model.specs.MachineCounts.{fresh}
-use Rattle.b1_model.specs.MachineEvents.{begun_of, slots_at, collected_of}
+use Rattle.b1_model.specs.MachineEvents.{begun_of}
 use Rattle.b1_model.specs.MachineStep.{Step}
 use Rattle.b1_step.specs.Rights.{Has}
 use Rattle.b1_step.proofs.Orders.{same_ref_is}
 use Rattle.b1_inv.specs.Words.{IsPeer, IsDriver, IsMade}
 use Rattle.b1_inv.specs.Sound.{IsSound}
 use Rattle.b1_inv_record.specs.Holders.{HolderCovered, IsCovered, slots_now}
-use Rattle.b1_inv_tools.proofs.Leaves.{driver_cases, peer_cases, new_peer}
+use Rattle.b1_inv_tools.proofs.Leaves.{peer_cases, new_peer}
 use Rattle.b1_inv_notices.proofs.Nodes.{node_kept}
 use Rattle.b1_inv_notices.proofs.Sets.{has_peer_new}
-use Rattle.b1_inv_notices.proofs.Turns.{opened, answered, took_leaves, parts, going_doing, going_answer}
+use Rattle.b1_inv_notices.proofs.Turns.{opened, answered, parts, going_doing, going_answer}
 use Rattle.b1_inv_cover.proofs.Stamped.{same_peer_at}
-use Rattle.b1_inv_holders.proofs.Counted.{IsAttached, driver_slots, cond_true, cond_false, carries_data, message_is, entry_counted}
+use Rattle.b1_inv_holders.proofs.Counted.{IsAttached, carries_data, message_is, entry_counted}
 use Rattle.b1_inv_holders.proofs.Held.{at_neither, at_owner}
 use Rattle.b1_inv_holders.proofs.SlotTurns.{NewSlot}
 use Rattle.b1_inv_holders.proofs.Filled.{filled_from}

@@ -1,5 +1,5 @@
 -- Where a filled slot of an entry comes from: it was filled so before the step, or the event filled it.
-use Rattle.std.proofs.Common.{◌≡◌, ◌≢◌, ◌⊎◌, refl, sym, ap, subst, ◌∙◌, inl, inr, ℕ, Bool, true, false, List, [], Option, Some, None}
+use Rattle.std.proofs.Common.{◌≡◌, ◌≢◌, ◌⊎◌, refl, sym, ap, subst, ◌∙◌, inl, inr, ℕ, Bool, true, false, [], Option, Some, None}
 use Rattle.std.specs.Prelude.{slice_get}
 use Rattle.b1_model.specs.declared.commands.Command.{Command}
 use Rattle.b1_model.specs.declared.naming.Key.{Key}

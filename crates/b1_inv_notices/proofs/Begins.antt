@@ -10,7 +10,7 @@ use Rattle.b1_model.specs.MachineParts.{PeerPart, DriverPart, NodePart, is_dying
 use Rattle.b1_model.specs.MachineTables.{counted, with_made}
 use Rattle.b1_model.specs.MachineStep.{opening_state, wire_made, wire_counted, wire_held}
 use Rattle.b1_step.specs.Rights.{Has}
-use Rattle.b1_inv.specs.Words.{IsPeer, IsDriver, fixed_stamp, stamp_of_phase}
+use Rattle.b1_inv.specs.Words.{IsPeer, IsDriver}
 use Rattle.b1_inv.specs.Notices.{NoticesRight, AreOthers}
 use Rattle.b1_inv.specs.Stamps.{StampsRight}
 use Rattle.b1_inv_tools.proofs.Openings.{opening_each, opening_idle}

@@ -1,6 +1,5 @@
 -- A step keeps what holds of every peer by its own open destruction.
 use Rattle.std.proofs.Common.{◌≡◌, ◌≢◌, ◌⊎◌, refl, sym, ap, subst, ◌∙◌, inl, inr, ℕ, ◌<◌, ◌≤◌, ◌==◌, Bool, true, false, cond, List, [], ◌∷◌, length, Option, Some, None}
-use Rattle.std.specs.Prelude.{slice_get}
 use Rattle.std.specs.List.{All}
 use Rattle.std.proofs.lemmas.Bool.{eq-eqb}
 use Rattle.std.proofs.lemmas.Option.{slice_get_within}
@@ -32,7 +31,7 @@ use Rattle.b1_model.specs.MachineStep.{Step}
 use Rattle.b1_step.specs.Rights.{Has, Changes}
 use Rattle.b1_step.proofs.Changed.{changes}
 use Rattle.b1_step.proofs.Numbers.{changes_fixed}
-use Rattle.b1_inv.specs.Words.{IsPeer, IsDriver, IsMade, is_accepted_place}
+use Rattle.b1_inv.specs.Words.{IsPeer, IsDriver, IsMade}
 use Rattle.b1_inv.specs.Notices.{Apart, AreOthers, IsDestroying}
 use Rattle.b1_inv.specs.Sends.{SendShape}
 use Rattle.b1_inv.specs.Sound.{IsSound}

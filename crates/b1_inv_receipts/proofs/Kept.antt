@@ -1,6 +1,5 @@
 -- Nodes have own numbers, and the destroy notices that drivers received name nodes: in an opening, and after each step.
-use Rattle.std.proofs.Common.{◌≡◌, ◌≢◌, ◌⊎◌, refl, sym, ap, ◌∙◌, inl, inr, subst, ℕ, ◌+◌, ◌%◌, ◌<◌, ◌≤◌, Bool, true, false, cond, List, [], ◌∷◌, ◌++◌, slice_get, length, Option, Some, None}
-use Rattle.std.specs.Prelude.{⊤}
+use Rattle.std.proofs.Common.{◌≡◌, refl, sym, ◌∙◌, inl, inr, subst, ℕ, ◌%◌, ◌<◌, ◌≤◌, Bool, true, false, cond, List, [], ◌∷◌, length, Option, Some, None}
 use Rattle.std.proofs.lemmas.Bool.{eqb-true}
 use native.Mathlib.Omega.{arith}
 use Rattle.b1_model.specs.declared.naming.Key.{Key}
@@ -18,19 +17,18 @@ use Rattle.b1_model.specs.declared.events.Action.TheVariants as act
 use Rattle.b1_model.specs.declared.events.Doing.{Doing}
 use Rattle.b1_model.specs.declared.events.Outcome.{Outcome}
 use Rattle.b1_model.specs.declared.events.Phase.{Phase}
-use Rattle.b1_model.specs.declared.events.Phase.TheVariants.{Starting}
 use Rattle.b1_model.specs.Names.{is_own}
 use Rattle.b1_model.specs.MachineParts.{PeerPart, DriverPart, NodePart, State}
-use Rattle.b1_model.specs.MachineTables.{is_stage, with_made, counted}
-use Rattle.b1_model.specs.MachineSend.{find_stage, with_slots}
+use Rattle.b1_model.specs.MachineTables.{is_stage, with_made}
+use Rattle.b1_model.specs.MachineSend.{with_slots}
 use Rattle.b1_model.specs.MachineDriver.{Turn, Goes, Ends, turn}
 use Rattle.b1_model.specs.MachineTook.{is_waiting, as_call, call_of, is_done, answer_of, ended, goes_by, turned, with_facts}
 use Rattle.b1_model.specs.MachineEvents.{happens, begin_serials, slots_at}
-use Rattle.b1_model.specs.MachineStep.{Step, opening_state, wire_made, wire_counted, wire_held, idle_driver}
+use Rattle.b1_model.specs.MachineStep.{Step, opening_state, wire_made, wire_counted, wire_held}
 use Rattle.b1_step.specs.Rights.{Has}
 use Rattle.b1_step.proofs.Lists.{has_at, has_append}
 use Rattle.b1_step.proofs.Orders.{find_has}
-use Rattle.b1_inv.specs.Words.{IsPeer, IsDriver}
+use Rattle.b1_inv.specs.Words.{IsPeer}
 use Rattle.b1_inv.specs.Receipts.{NamesNode, ReapsNode, IsOfMade, NodesNumbered, NoticesNamed, ReceiptsRight}
 use Rattle.b1_inv.specs.Sound.{IsSound}
 use Rattle.b1_inv_tools.proofs.Comes.{Comes, queue_comes}

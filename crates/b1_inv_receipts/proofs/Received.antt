@@ -1,5 +1,5 @@
 -- A destroy notice that a RECV takes names a node: an own one that was made, or another's that is held.
-use Rattle.std.proofs.Common.{◌≡◌, ◌≢◌, refl, sym, ap, ◌∙◌, inl, inr, subst, ℕ, zero, suc, ◌%◌, ◌<◌, ◌==◌, Bool, true, false, cond, not, ◌&&◌, List, [], ◌∷◌, ◌++◌, drop, take_while, length, get_or, find, Option, Some, None, Ok, Err, Result, unwrap_or}
+use Rattle.std.proofs.Common.{◌≡◌, ◌≢◌, refl, sym, ap, ◌∙◌, inl, inr, subst, ℕ, ◌%◌, ◌<◌, Bool, true, false, cond, not, ◌&&◌, List, [], ◌∷◌, drop, take_while, length, get_or, find, Option, Some, None, Ok, Err, Result, unwrap_or}
 use Rattle.std.specs.Prelude.{⊤}
 use Rattle.std.proofs.lemmas.List.Sums.{take_while-cons}
 use Rattle.std.proofs.lemmas.Bool.{eqb-false}
@@ -12,13 +12,12 @@ use Rattle.b1_model.specs.declared.answers.Receipt.{Receipt}
 use Rattle.b1_model.specs.declared.entries.Entry.{Entry}
 use Rattle.b1_model.specs.declared.entries.Entry.TheVariants.{Message, OwnNotice, ForeignNotice, ReleaseNotice}
 use Rattle.b1_model.specs.Names.{invalid}
-use Rattle.b1_model.specs.MachineParts.{PeerPart, NodePart, HandleRecord, no_node, node_at, no_record, record_of, record_or_none, same_ref, is_staged}
-use Rattle.b1_model.specs.MachineTables.{next_number}
+use Rattle.b1_model.specs.MachineParts.{PeerPart, HandleRecord, no_node, node_at, no_record, record_of, record_or_none, same_ref, is_staged}
 use Rattle.b1_model.specs.MachineReceive.{is_for_nobody, discards, cleared, taken_entry, front_by, front_taken, received}
 use Rattle.b1_step.specs.Rights.{Has}
 use Rattle.b1_step.specs.Ordered.{Rising}
 use Rattle.b1_inv.specs.Numbers.{AreNumbered}
-use Rattle.b1_inv.specs.Receipts.{NamesNode, IsOfMade, NodesNumbered}
+use Rattle.b1_inv.specs.Receipts.{NamesNode, NodesNumbered}
 use Rattle.b1_inv_tools.proofs.Received.{at_cleared}
 use Rattle.b1_inv_refs.proofs.Arrivals.{queue_parts, Cleared, is_cleared}
 use Rattle.b1_inv_refs.proofs.Tables.{at_discards}

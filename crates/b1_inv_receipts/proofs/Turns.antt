@@ -1,5 +1,5 @@
 -- What an event's answer makes of a phase: a destroy notice is in hand only behind a RECV that took one.
-use Rattle.std.proofs.Common.{◌≡◌, refl, ap, subst, ℕ, ◌+◌, max, Bool, true, false, cond, nat_lt, ◌&&◌, List, [], ◌∷◌, ◌++◌, drop, get_or, length, Option, Some, None, Ok, Err, Result}
+use Rattle.std.proofs.Common.{◌≡◌, subst, ℕ, ◌+◌, max, Bool, true, false, cond, nat_lt, ◌&&◌, List, [], ◌∷◌, ◌++◌, get_or, length, Option, Some, None, Ok, Err, Result}
 use Rattle.std.specs.Prelude.{⊤}
 use Rattle.std.proofs.lemmas.Bool.{cond_both}
 use Rattle.b1_model.specs.declared.naming.Opening.{Opening}
@@ -26,10 +26,10 @@ use Rattle.b1_model.specs.declared.events.Sending.{Sending}
 use Rattle.b1_model.specs.MachineParts.{PeerPart, DriverPart}
 use Rattle.b1_model.specs.MachinePool.{is_received}
 use Rattle.b1_model.specs.MachineSend.{send_refusal}
-use Rattle.b1_model.specs.MachineReceive.{received, released}
-use Rattle.b1_model.specs.MachineDriver.{Turn, Goes, Ends, send_of, refused_at, is_memory, memory_place, all_refused, accepted_from, is_place, attaching, all_staged, staging, unstaging, with_slot, syncing, visiting, with_visit, syncing_notices, is_flushing, committing_notices, destroying, recv_answer, started, place_done, turn}
+use Rattle.b1_model.specs.MachineReceive.{received}
+use Rattle.b1_model.specs.MachineDriver.{Turn, Goes, Ends, send_of, refused_at, memory_place, all_refused, accepted_from, is_place, attaching, all_staged, staging, unstaging, with_slot, syncing, visiting, syncing_notices, is_flushing, committing_notices, destroying, started, place_done, turn}
 use Rattle.b1_model.specs.MachineTook.{stamped_answer, answer_of}
-use Rattle.b1_model.specs.MachineEvents.{happens, begin_by, stage_by, destroy_by, begin_refusal, begin_serials, local_answer, number_of}
+use Rattle.b1_model.specs.MachineEvents.{happens, begin_by, stage_by, destroy_by, begin_refusal, begin_serials, local_answer}
 use Rattle.b1_inv.specs.Receipts.{NamesNode, ReapsNode}
 use Rattle.b1_inv_receipts.proofs.Received.{FrontNames}
 

@@ -1,7 +1,4 @@
 -- Clocks and stamps: what the clocks of peers cover, and what open commands have collected.
--- Preservation leans on (beside itself, and the numbers of parts): CommittedBelowClock: Synced, SendsRight, StagesRight, StampsRight, DestructionShape.  ListedBelowClock: CommittedBelowClock.
--- Synced: nothing.  StampsAboveCollected: nothing.  StagedKeysRight: Synced, ClocksRight (staged keys are odd, others even), StagesRight and NoticesRight, before and after the step (a staged entry's driver is open).
--- OwedRight: nothing (the dead list's item leaves with the peer's own clock).
 use Rattle.std.specs.Prelude.{◌≡◌, ◌≤◌, ◌+◌, ℕ, Bool, true, false, ◌&&◌, nat_lt, List, [], take, slice_get, Some, None}
 use Rattle.b1_model.specs.declared.naming.Key.{Key}
 use Rattle.b1_model.specs.declared.naming.NodeRef.{NodeRef}

@@ -1,6 +1,4 @@
 -- Destructions: nodes against the record's destructions, and which notices stand in the queues or were taken.
--- Preservation leans on (beside itself): DyingIsDoomed: MadeNumbers, OldNodesDestroyed.  DoomKeysRight: Legal's keys, DyingIsDoomed.
--- OwnNoticeRight: DyingIsDoomed.  ForeignNoticeRight: DyingIsDoomed, StagesRight.  TakenHasReceipt: OwnNoticeRight, ForeignNoticeRight, EpochCounted.
 use Rattle.std.specs.Prelude.{◌≡◌, ◌≤◌, ◌⊎◌, ◌&&◌, ℕ, Bool, true, false, slice_get, Option, Some, option_map}
 use Rattle.b1_model.specs.declared.naming.Key.{Key}
 use Rattle.b1_model.specs.declared.naming.NodeRef.{NodeRef}

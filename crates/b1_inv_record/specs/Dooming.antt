@@ -1,5 +1,4 @@
 -- What an open destruction dooms: the nodes that its command names, or all nodes that aren't destroyed.
--- Preservation leans on (beside itself): FlushesDoomAll, FlushCommands: nothing.  DoomsItsNodes: MadeNumbers, DestructionShape.
 use Rattle.std.specs.Prelude.{◌≡◌, ◌+◌, ℕ, Bool, true, false, if◌then◌else◌, List, [], ◌∷◌, map, get_or, Option, Some}
 use Rattle.b1_model.specs.declared.commands.Command.TheVariants as cmd
 use Rattle.b1_model.specs.declared.events.Doing.{Doing}

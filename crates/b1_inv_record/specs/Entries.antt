@@ -1,7 +1,4 @@
 -- Entries: each accepted place of a send is somewhere, and what a peer has taken is below all that is still to come.
--- Preservation leans on (beside itself): PendingIsStaged: OldNodesDestroyed.  QueuedIsPresent: OldNodesDestroyed.
--- CommittedHasCall: BegunNames, MadeNumbers, TableIsLines, StagesRight.  EntryIsSomewhere: PendingIsStaged, GoneBelowQueue, BegunNames, MadeNumbers.
--- GoneBelowQueue: CommittedBelowClock, ListedBelowClock, StagedKeysRight, StampsAboveCollected, OwnNotice, ForeignNotice.  PendingAboveTaken: ListedBelowClock, PendingIsStaged, StagedKeysRight.
 use Rattle.std.specs.Prelude.{◌≡◌, ◌≤◌, ◌<◌, ◌⊎◌, ⊤, ℕ, true, false, map, slice_get, Some, None, option_map}
 use Rattle.std.specs.List.{All}
 use Rattle.b1_model.specs.declared.naming.Key.{Key}

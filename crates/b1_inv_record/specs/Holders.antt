@@ -1,6 +1,4 @@
 -- Holders: who holds a node that ends has its notice or is still to be visited, and what holders took travels to the owner's clock.
--- Preservation leans on (beside itself): HolderCovered: ReferencesRight.counts (at a destruction's begin), ForeignNoticeRight, FlightsRight.  SeenTravels: ListedBelowClock, TableIsLines.
--- SeenCollected: SeenTravels, ReferencesRight.counts, HolderCovered, ForeignNoticeRight, StagedKeysRight, ListedBelowClock.  VoidRight: StampsAboveCollected.
 use Rattle.std.specs.Prelude.{◌≡◌, ◌≤◌, ◌<◌, ◌⊎◌, ℕ, suc, true, false, if◌then◌else◌, List, [], slice_get, Some, None}
 use Rattle.b1_model.specs.declared.naming.Key.{Key}
 use Rattle.b1_model.specs.declared.naming.NodeRef.{NodeRef}

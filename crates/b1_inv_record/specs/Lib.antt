@@ -8,3 +8,4 @@ pub mod Numbers
 pub mod Destructions
 pub mod Holders
 pub mod Right
+pub mod Kept

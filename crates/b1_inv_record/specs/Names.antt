@@ -1,6 +1,4 @@
 -- Names, nodes and tables: a peer's part against its calls, also in the gap of a reset and within an open SEND.
--- Preservation leans on (beside itself): MadeNumbers: nothing.  TableIsLines: Legal's contents of the new receipt.  BegunNames: nothing (other drivers change no name).
--- OldNodesDestroyed: MadeNumbers, DyingIsDoomed.  ShutIsEmpty: OldNodesDestroyed, and that no record stands there.  EpochCounted: nothing.
 use Rattle.std.specs.Prelude.{◌≡◌, ◌<◌, ◌%◌, ℕ, suc, true, false, if◌then◌else◌, List, [], map, slice_get, Some, None}
 use Rattle.b1_model.specs.declared.naming.Opening.{Opening}
 use Rattle.b1_model.specs.declared.commands.Command.{Command}

@@ -1,8 +1,4 @@
 -- Parts: what is always so of a single peer's part in a reached state.
--- Preservation leans on no other group of the record, but on the sound state and (beside itself) on:
--- KeysAscend: StagesRight, StampsRight, NoticesRight, OwnNoticesApart, ClocksRight, FlightsRight, ReferencesRight, MarksRight, ReleaseNoticesRight (all for "the key is new").
--- SerialsMade, RecordsNeeded: nothing.  PoolRight: KeysAscend, HandlesRise, StagesRight.  MarksRight: KeysAscend, HandlesRise.
--- ReleaseNoticesRight: NoticesRight, and ReferencesRight (a drop is of references that are counted, so no release notice of its node is queued).
 use Rattle.std.specs.Prelude.{◌≡◌, ◌≤◌, ◌<◌, ◌%◌, ◌+◌, ◌&&◌, ⊤, ℕ, Bool, true, false, List, [], ◌∷◌, length}
 use Rattle.b1_model.specs.declared.naming.Key.{Key}
 use Rattle.b1_model.specs.declared.naming.NodeRef.{NodeRef}

@@ -1,5 +1,5 @@
 -- A step keeps the counts: each owner's count of a peer's references stays the fresh count.
-use Rattle.std.proofs.Common.{◌≡◌, ◌⊎◌, refl, sym, ap, ◌∙◌, inl, inr, subst, ℕ, zero, suc, ◌+◌, ◌<◌, ◌≤◌, ◌==◌, ◌%◌, Bool, true, false, cond, ◌&&◌, List, [], ◌∷◌, get_or, length, sum_by, Option, Some, None}
+use Rattle.std.proofs.Common.{◌≡◌, ◌⊎◌, refl, sym, ap, ◌∙◌, inl, inr, subst, ℕ, zero, suc, ◌+◌, ◌<◌, ◌≤◌, ◌==◌, Bool, true, false, cond, ◌&&◌, List, [], ◌∷◌, get_or, length, sum_by, Option, Some, None}
 use Rattle.std.specs.Prelude.{slice_get}
 use Rattle.std.proofs.lemmas.Bool.{cases_eq, eq-eqb, ne_eqb, eqb-true, and_parts}
 use Rattle.std.proofs.lemmas.Option.{slice_get_within, get_or_from_slice_get, same_Some}
@@ -20,10 +20,10 @@ use Rattle.b1_model.specs.declared.events.Phase.TheVariants.{Starting, Staging, 
 use Rattle.b1_model.specs.declared.events.Doing.{Doing}
 use Rattle.b1_model.specs.declared.events.Sending.{Sending}
 use Rattle.b1_model.specs.declared.events.OwedDrop.{OwedDrop}
-use Rattle.b1_model.specs.MachineParts.{PeerPart, DriverPart, State, no_node, node_at, same_ref, is_odd, is_data, is_staged, carried}
+use Rattle.b1_model.specs.MachineParts.{PeerPart, State, no_node, node_at, same_ref, is_odd, is_data, is_staged, carried}
 use Rattle.b1_model.specs.MachineTables.{count_of, is_stage}
 use Rattle.b1_model.specs.MachineSend.{find_stage}
-use Rattle.b1_model.specs.MachineDriver.{no_ref, node_of_place, next_action, phase_action, first_action, peer_of, accepted_from}
+use Rattle.b1_model.specs.MachineDriver.{no_ref, node_of_place, phase_action, first_action, peer_of, accepted_from}
 use Rattle.b1_model.specs.MachineTook.{place_references}
 use Rattle.b1_model.specs.MachineEvents.{begun_of, happens}
 use Rattle.b1_model.specs.MachineCounts.{amount_in, kept_from, peer_amount, owed_amount, driver_amount, fresh}

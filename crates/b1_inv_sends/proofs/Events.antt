@@ -1,5 +1,5 @@
 -- Which event is next, and what a stage answers whose message comes into the queue.
-use Rattle.std.proofs.Common.{◌≡◌, ◌⊎◌, refl, inl, inr, ℕ, Bool, true, false, List, [], ◌∷◌, Option, Some, None, Ok}
+use Rattle.std.proofs.Common.{◌≡◌, ◌⊎◌, refl, inl, inr, ℕ, Bool, true, false, List, Option, Some, None, Ok}
 use Rattle.std.specs.Prelude.{⊤}
 use Rattle.b1_model.specs.declared.naming.Key.{Key}
 use Rattle.b1_model.specs.declared.naming.NodeRef.{NodeRef}
@@ -10,9 +10,7 @@ use Rattle.b1_model.specs.declared.events.Action.{Action}
 use Rattle.b1_model.specs.declared.events.Action.TheVariants as act
 use Rattle.b1_model.specs.declared.events.Outcome.TheVariants as out
 use Rattle.b1_model.specs.declared.events.Doing.{Doing}
-use Rattle.b1_model.specs.declared.events.OwedDrop.{OwedDrop}
 use Rattle.b1_model.specs.MachineParts.{PeerPart, DriverPart}
-use Rattle.b1_model.specs.MachineDriver.{phase_action, next_action}
 use Rattle.b1_model.specs.MachineEvents.{happens, stage_by}
 use Rattle.b1_step.specs.Rights.{Has}
 use Rattle.b1_step.proofs.Queues.{put_has}

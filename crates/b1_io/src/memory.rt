@@ -1,5 +1,5 @@
 // A source and a sink in memory, whose calls can be made small and be made to fail.
-ghost use Rattle.std.specs.Prelude.{◌≡◌, ◌<◌, ◌≤◌, ◌↔◌, [], Option, Some, length, take, Contains, IfOk, OnOk, OnErr, IfSome, IsErr};
+ghost use Rattle.std.specs.Prelude.{◌≡◌, ◌<◌, ◌≤◌, ◌↔◌, [], Some, length, take, Contains, IfOk, OnErr, IfSome, IsErr};
 ghost use Rattle.b1_io.specs.Streams.{Rose, Gave, Took};
 ghost use Rattle.b1_io.specs.Held.{given_to, after_read, after_failed_read, taken_of, MustFail, after_write, after_failed_write};
 
@@ -24,7 +24,13 @@ impl Model for MemSource {
 
     ghost Value = { HeldSource };
 
-    ghost view = { λ s. record { left = drop s.at s.bytes.items; per_call = s.per_call; fails = s.fails.items; calls = s.calls; faults = s.faults } };
+    ghost view = { λ s. record {
+      left = drop s.at s.bytes.items;
+      per_call = s.per_call;
+      fails = s.fails.items;
+      calls = s.calls;
+      faults = s.faults;
+    } };
 
     ghost invariant = { λ s. (s.at ≤ vec_len s.bytes) × (0 < s.per_call) };
 }
@@ -104,9 +110,17 @@ impl Model for MemSink {
 
     ghost Value = { HeldSink };
 
-    ghost view = { λ s. record { taken = s.taken.items; room = s.room; per_call = s.per_call; fails = s.fails.items; calls = s.calls; faults = s.faults } };
+    ghost view = { λ s. record {
+      taken = s.taken.items;
+      room = s.room;
+      per_call = s.per_call;
+      fails = s.fails.items;
+      calls = s.calls;
+      faults = s.faults;
+    } };
 
-    ghost invariant = { λ s. (vec_len s.taken ≤ s.room) × (s.room ≤ vec_capacity s.taken) × (0 < s.per_call) };
+    ghost invariant = { λ s. (vec_len s.taken ≤ s.room) × (s.room ≤ vec_capacity s.taken)
+        × (0 < s.per_call) };
 }
 
 impl MemSink {

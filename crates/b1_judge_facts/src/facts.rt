@@ -41,7 +41,8 @@ impl<'a> Model for Facts<'a> {
 
     ghost view = { λ f. record { wires = f.opening.now.wires; rec = f.rec.now } };
 
-    ghost invariant = { λ f. IsFacts f.opening.now f.rec.now f.order f.messages f.destroyed f.first };
+    ghost invariant = { λ f. IsFacts f.opening.now f.rec.now f.order f.messages f.destroyed
+        f.first };
 }
 
 impl<'a> Facts<'a> {

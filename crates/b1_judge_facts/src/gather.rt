@@ -189,7 +189,8 @@ fn doomed_by(
     call: &Call,
 ) -> Result<Option<Items<Option<NodeId>>>, AllocError>
     ensures { IfOk result (λ nodes. nodes
-        ≡ doomed_by peer pace.now.standing.names pace.now.standing.table (is_gone pace.now.gone) call.now.command call.now.answer) }
+        ≡ doomed_by peer pace.now.standing.names pace.now.standing.table
+        (is_gone pace.now.gone) call.now.command call.now.answer) }
 {
     match &call.answer {
         Answer::Destroyed { .. } => {

@@ -20,7 +20,12 @@ impl<'a> Model for Message<'a> {
 
     ghost Value = { Messages };
 
-    ghost view = { λ m. record { to = m.to; carried = m.carried; places = m.places.now; payload = m.payload.now } };
+    ghost view = { λ m. record {
+      to = m.to;
+      carried = m.carried;
+      places = m.places.now;
+      payload = m.payload.now;
+    } };
 }
 
 impl<'a> Message<'a> {

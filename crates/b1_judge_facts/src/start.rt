@@ -1,6 +1,6 @@
 //! The names and tables with which the peers begin.
 
-ghost use Rattle.std.specs.Prelude.{◌≡◌, ◌≤◌, ◌<◌, ◌^◌, if◌then◌else◌, ◌==◌, length, IfOk, OnOk};
+ghost use Rattle.std.specs.Prelude.{◌≡◌, ◌≤◌, ◌^◌, if◌then◌else◌, ◌==◌, length, IfOk, OnOk};
 ghost use Rattle.b1_model.specs.Names.{wired};
 ghost use Rattle.b1_judge_facts.specs.Steps.{with_name};
 ghost use Rattle.b1_judge_facts.specs.Start.{AreWithin, IsWithin, AreBegun, AreNamed, Gives};

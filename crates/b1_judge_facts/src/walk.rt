@@ -37,7 +37,12 @@ impl<'a> Model for Walk<'a> {
     ghost use Rattle.std.specs.Prelude.{◌≡◌};
     ghost use Rattle.b1_judge_facts.specs.Standing.{standing as standing_at};
 
-    ghost view = { λ w. record { wires = w.opening.now.wires; rec = w.rec.now; peer = w.peer; call = w.call } };
+    ghost view = { λ w. record {
+      wires = w.opening.now.wires;
+      rec = w.rec.now;
+      peer = w.peer;
+      call = w.call;
+    } };
 
     ghost invariant = { λ w. w.standing ≡ standing_at w.opening.now.wires w.rec.now w.peer w.call };
 }
@@ -232,7 +237,8 @@ impl<'a> Walk<'a> {
         requires rec { self.now.rec ≡ facts.now.rec }
         requires none { CarriesNone self.now.rec self.now.peer self.now.call }
         ensures { IfOk result (λ numbers. numbers
-            ≡ arrived (is_late_at self.now key.now) self.now.peer (at made self.now) carried.now (at table self.now)) }
+            ≡ arrived (is_late_at self.now key.now) self.now.peer (at made self.now) carried.now
+            (at table self.now)) }
     {
         let mut table = self.table(alloc)?;
         let mut numbers = Vec::with_capacity(alloc, carried.len())?;

@@ -1,4 +1,4 @@
-ghost use Rattle.std.specs.Prelude.{◌≡◌, ◌≢◌, ◌⊎◌, ℕ, suc, ◌≤◌, true, false, ◌&&◌, List, map, slice_get, Option, Some, None};
+ghost use Rattle.std.specs.Prelude.{◌≡◌, ◌≢◌, ◌⊎◌, ℕ, suc, ◌≤◌, true, ◌&&◌, List, map, slice_get, Some, None};
 ghost use Rattle.b1_model.specs.declared.naming.Key.{Key};
 ghost use Rattle.b1_model.specs.declared.naming.Wire.{Wire};
 ghost use Rattle.b1_model.specs.declared.naming.Opening.{Opening};

@@ -1,4 +1,4 @@
-ghost use Rattle.std.specs.Prelude.{◌≡◌, ◌≢◌, ℕ, suc, ◌<◌, ◌≤◌, true, false, ◌||◌, ◌==◌, find, List, [], ◌++◌, ◌∷◌, map, take, slice_get, Option, Some, option_and_then};
+ghost use Rattle.std.specs.Prelude.{◌≡◌, ◌≢◌, ℕ, suc, ◌<◌, ◌≤◌, false, ◌||◌, ◌==◌, find, List, ◌++◌, map, take, slice_get, Some, option_and_then};
 ghost use Rattle.std.specs.List.{list_any};
 ghost use Rattle.b1_model.specs.declared.naming.Key.{Key};
 ghost use Rattle.b1_model.specs.declared.naming.Wire.{Wire};

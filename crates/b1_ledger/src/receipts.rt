@@ -1,4 +1,4 @@
-ghost use Rattle.std.specs.Prelude.{◌≡◌, ℕ, ◌<◌, true, List, slice_get, Option, Some};
+ghost use Rattle.std.specs.Prelude.{◌≡◌, ℕ, ◌<◌, true, List, slice_get, Some};
 ghost use Rattle.b1_model.specs.declared.naming.Key.{Key};
 ghost use Rattle.b1_model.specs.declared.naming.Wire.{Wire};
 ghost use Rattle.b1_model.specs.declared.naming.Opening.{Opening};

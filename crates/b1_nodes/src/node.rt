@@ -1,4 +1,4 @@
-ghost use Rattle.std.specs.Prelude.{◌≡◌, ◌<◌, ◌≤◌, ◌^◌, true, false, length, replicate, slice_index};
+ghost use Rattle.std.specs.Prelude.{◌≡◌, ◌<◌, ◌≤◌, ◌^◌, true, false, length, replicate};
 ghost use Rattle.b1_model.specs.MachineParts.{is_destroyed, is_live as is_living};
 ghost use Rattle.b1_model.specs.MachineTables.{count_of, counted, uncounted, in_state, notice_taken as with_notice_taken, is_unheld as has_no_count};
 ghost use Rattle.b1_model.specs.declared.parts.NodeState.TheVariants.{Live, Dying, Destroyed};
@@ -24,7 +24,12 @@ impl Model for Node {
 
     ghost Value = { NodePart };
 
-    ghost view = { λ n. record { number = n.number; state = n.state; counts = padded n.peers n.counts.items; taken = n.taken } };
+    ghost view = { λ n. record {
+      number = n.number;
+      state = n.state;
+      counts = padded n.peers n.counts.items;
+      taken = n.taken;
+    } };
 
     ghost invariant = { λ n. record {
       few : length n.counts.items ≤ n.peers;

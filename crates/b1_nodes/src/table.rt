@@ -1,4 +1,4 @@
-ghost use Rattle.std.specs.Prelude.{◌≡◌, ◌≢◌, ◌&&◌, ◌-◌, ◌<◌, ◌≤◌, ◌^◌, [], ◌++◌, ◌∷◌, AllPairs, length, Some, None, IfOk, OnOk, true};
+ghost use Rattle.std.specs.Prelude.{◌≡◌, ◌≢◌, ◌&&◌, ◌-◌, ◌<◌, ◌≤◌, ◌^◌, [], AllPairs, length, Some, None, IfOk, OnOk, true};
 ghost use Rattle.b1_model.specs.declared.parts.NodeState.TheVariants.{Dying, Destroyed};
 ghost use Rattle.b1_model.specs.Names.{is_own};
 ghost use Rattle.b1_model.specs.MachineParts.{is_live, is_dying, is_destroyed};
@@ -32,7 +32,13 @@ impl Model for NodeTable {
 
     ghost Value = { Nodes };
 
-    ghost view = { λ t. record { owner = t.owner; peers = t.peers; nodes = t.nodes.items; late = t.late; spare = vec_len t.rooms } };
+    ghost view = { λ t. record {
+      owner = t.owner;
+      peers = t.peers;
+      nodes = t.nodes.items;
+      late = t.late;
+      spare = vec_len t.rooms;
+    } };
 
     ghost invariant = { λ t. record {
       few_peers : t.peers ≤ MOST_PEERS;
@@ -132,7 +138,8 @@ impl NodeTable {
     /// Marks that a node's own notice was taken.
     pub fn take_notice(&mut self, serial: u32)
         requires { serial < length self.old.nodes }
-        ensures { self.new ≡ record self.old { nodes = with_node serial with_notice_taken self.old.nodes } }
+        ensures { self.new
+            ≡ record self.old { nodes = with_node serial with_notice_taken self.old.nodes } }
     {
         mark_taken(&mut self.nodes, serial);
     }

@@ -1,4 +1,4 @@
-ghost use Rattle.std.specs.Prelude.{◌≡◌, ◌<◌, ◌-◌, true, false, Some, MatchResult};
+ghost use Rattle.std.specs.Prelude.{◌≡◌, ◌-◌, true, false, Some, MatchResult};
 ghost use Rattle.b1_model.specs.declared.answers.Reason.TheVariants as reason;
 ghost use Rattle.b1_model.specs.MachinePool.{is_received};
 ghost use Rattle.b1_model.specs.MachineReceive.{has_dead as has_dead_item, reaped, reaped_part, limited, released, released_part, slice_released};

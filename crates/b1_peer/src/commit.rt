@@ -81,7 +81,8 @@ impl<Q: QueueKind, P: PoolKind> PeerState<Q, P> {
     pub fn commit_notices(&mut self, origin: u32, stamp: u64)
         requires stamp { IsClock stamp }
         requires notices { NoticesFit self.old.part origin stamp }
-        ensures { self.new ≡ record self.old { part = notices_committed self.old.part origin stamp } }
+        ensures { self.new
+            ≡ record self.old { part = notices_committed self.old.part origin stamp } }
     {
         self.mail.commit_notices(origin, stamp);
     }

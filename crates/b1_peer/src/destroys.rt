@@ -1,4 +1,4 @@
-ghost use Rattle.std.specs.Prelude.{◌≡◌, ◌≢◌, ◌≤◌, ◌<◌, [], AllPairs, length, vec_capacity};
+ghost use Rattle.std.specs.Prelude.{◌≡◌, ◌≢◌, ◌≤◌, [], AllPairs, length, vec_capacity};
 ghost use Rattle.b1_model.specs.declared.events.Outcome.TheVariants as out;
 ghost use Rattle.b1_model.specs.MachineParts.{is_live};
 ghost use Rattle.b1_model.specs.MachineDestroy.{destroy_refusal, destroy_serials, overflow_reason, reset_serials, visit_set, doomed_part, visit_answer, visited, doom_answer, doom_stamped};

@@ -19,7 +19,8 @@ impl<Q: QueueKind, P: PoolKind> PeerState<Q, P> {
         requires some { 1 ≤ k }
         requires enough { k ≤ count_of (node_at self.old.part serial) holder }
         requires new_key { ReleasesAnew self.old.part serial holder k clock }
-        ensures { self.new ≡ record self.old { part = dropped self.old.part serial holder k clock } }
+        ensures { self.new
+            ≡ record self.old { part = dropped self.old.part serial holder k clock } }
     {
         self.clock = self.clock.max(clock);
         if self.nodes.detach(serial, holder, k) {

@@ -1,6 +1,6 @@
 //! A queued message leaves a peer.
 
-ghost use Rattle.std.specs.Prelude.{◌≡◌, ◌+◌, ◌-◌, ◌<◌, ◌≤◌, true, drop, length, IsTrue, Some, slice_get, option_map};
+ghost use Rattle.std.specs.Prelude.{◌≡◌, ◌+◌, ◌-◌, ◌≤◌, true, drop, length, IsTrue, Some, slice_get, option_map};
 ghost use Rattle.b1_model.specs.MachineParts.{is_data, carried};
 ghost use Rattle.b1_model.specs.MachinePool.{given_back};
 ghost use Rattle.b1_model.specs.MachineTables.{unexpected, foreign};
@@ -34,7 +34,10 @@ pub fn take_back<P: PoolKind>(
     ensures bytes { store.new.bytes ≡ store.old.bytes }
     ensures stored { IsStored store.new }
     ensures handles { handles.new
-        ≡ record handles.old { records = unexpected (foreign me (carried entry)) handles.old.records } }
+        ≡ record handles.old {
+          records = unexpected (foreign me (carried entry))
+              handles.old.records;
+        } }
 {
     match entry {
         Entry::Message { offset, with, .. } => {
@@ -64,7 +67,10 @@ pub fn drop_message<P: PoolKind>(
     ensures bytes { store.new.bytes ≡ store.old.bytes }
     ensures stored { IsStored store.new }
     ensures handles { handles.new
-        ≡ record handles.old { records = unexpected (foreign me (carried entry)) handles.old.records } }
+        ≡ record handles.old {
+          records = unexpected (foreign me (carried entry))
+              handles.old.records;
+        } }
     ensures items { dead.new.items ≡ with_item (references entry) dead.old.items }
     ensures room { dead.old.room ≤ dead.new.room + 1 }
 {

@@ -84,7 +84,10 @@ impl<Q: QueueKind, P: PoolKind> PeerState<Q, P> {
         requires few { length self.old.part.nodes < 2 ^ 32 - 1 }
         requires own { is_own number ≡ true }
         ensures { OnOk result (self.new
-            ≡ record self.old { part = record self.old.part { nodes = with_made self.old.part.peers number self.old.part.nodes } }) }
+            ≡ record self.old {
+              part = record self.old.part
+                  { nodes = with_made self.old.part.peers number self.old.part.nodes };
+            }) }
     {
         if self.nodes.find(number).is_some() {
             return Ok(());

@@ -1,14 +1,11 @@
 //! A message arrives at its receiver.
 
-ghost use Rattle.std.specs.Prelude.{◌≡◌, ◌+◌, ◌*◌, ◌<◌, ◌≤◌, ◌^◌, [], true, length, zip, All, IsTrue, vec_capacity, Ok};
+ghost use Rattle.std.specs.Prelude.{◌≡◌, ◌+◌, ◌<◌, ◌≤◌, ◌^◌, [], All, vec_capacity, Ok};
 ghost use Rattle.b1_model.specs.declared.answers.Receipt.TheVariants as receipts;
-ghost use Rattle.b1_model.specs.MachineParts.{PeerPart};
 ghost use Rattle.b1_model.specs.MachinePool.{published};
-ghost use Rattle.b1_model.specs.MachineTables.{foreign};
-ghost use Rattle.b1_peer_pool.specs.Content.{Holds, padded, padded_len, SameElsewhere};
-ghost use Rattle.b1_peer_pool.specs.Slices.{is_queued, len_at};
+ghost use Rattle.b1_peer_pool.specs.Content.{SameElsewhere};
 ghost use Rattle.b1_peer_pool.specs.Stored.{IsStored};
-ghost use Rattle.b1_peer_carried.specs.Carry.{AreCarried, HasTables, may_arrive};
+ghost use Rattle.b1_peer_carried.specs.Carry.{may_arrive};
 ghost use Rattle.b1_peer.specs.Answers.{IsDelivered};
 ghost use Rattle.b1_peer.specs.Arrivals.{Arrives, CanArrive};
 
@@ -54,11 +51,13 @@ pub fn receive<P: PoolKind>(
     requires may_arrive { CanArrive me nodes.now store.old handles.old dead.old delivery }
     requires fits { All (λ h. h.held < 2 ^ 62) handles.old.records }
     requires numbered { handles.old.given + MOST_HANDLES < 2 ^ 60 }
-    ensures arrived { Arrives me nodes.now handles.old dead.old delivery.entry result handles.new dead.new }
+    ensures arrived { Arrives me nodes.now handles.old dead.old delivery.entry result handles.new
+        dead.new }
     ensures slices { store.new.slices ≡ published delivery.entry.offset store.old.slices }
     ensures size { store.new.size ≡ store.old.size }
     ensures stored { IsStored store.new }
-    ensures others { SameElsewhere delivery.entry.offset store.old.slices store.old.bytes store.new.bytes }
+    ensures others { SameElsewhere delivery.entry.offset store.old.slices store.old.bytes
+        store.new.bytes }
     ensures delivered { IsDelivered store.new.bytes (Ok result) }
     ensures room { dead.old.room ≤ dead.new.room + 1 }
 {

@@ -21,7 +21,8 @@ pub fn make_room<Q: QueueKind, P: PoolKind>(
     most: usize,
 ) -> Result<(), AllocError>
     requires { IsStored store.old }
-    ensures more { MoreRoom mail.old mail.new store.old store.new dead.old dead.new numbers.old numbers.new }
+    ensures more { MoreRoom mail.old mail.new store.old store.new dead.old dead.new numbers.old
+        numbers.new }
     ensures enough { OnOk result (Enough most
         (length mail.old.queue) mail.new store.new dead.new numbers.new) }
 {

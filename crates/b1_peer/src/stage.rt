@@ -35,7 +35,9 @@ struct Draft {
 impl Draft {
     /// The message at an offset.
     fn into_message(self, offset: u32, len: u32) -> Entry
-        ensures { result ≡ Message self.origin self.user self.index self.serial offset len self.with self.slots self.handles self.payload }
+        ensures { result
+            ≡ Message self.origin self.user self.index self.serial offset len self.with self.slots
+            self.handles self.payload }
     {
         let Draft {
             origin,
@@ -150,7 +152,8 @@ impl<Q: QueueKind, P: PoolKind> PeerState<Q, P> {
           origin = origin;
           index = index;
         }) self.old.part.queue }
-        ensures stages { Stages self.old.part origin user index serial payload.now with.now result self.new.part }
+        ensures stages { Stages self.old.part origin user index serial payload.now with.now result
+            self.new.part }
         ensures received { KeepsReceived self.old self.new }
         ensures users { self.new.users ≡ self.old.users }
     {
@@ -185,7 +188,8 @@ impl<Q: QueueKind, P: PoolKind> PeerState<Q, P> {
         requires with_is { draft.with ≡ with.now }
         requires slots_are { draft.slots ≡ map (λ node. Unattached) with.now }
         requires handles_are { draft.handles ≡ [] }
-        ensures stages { Stages self.old.part draft.origin draft.user draft.index draft.serial payload.now with.now result self.new.part }
+        ensures stages { Stages self.old.part draft.origin draft.user draft.index draft.serial
+            payload.now with.now result self.new.part }
         ensures received { KeepsReceived self.old self.new }
         ensures users { self.new.users ≡ self.old.users }
     {

@@ -31,7 +31,29 @@ impl<Q: QueueKind, P: PoolKind> Model for PeerState<Q, P> {
 
     ghost Value = { PeerSeen };
 
-    ghost view = { λ p. seen_of (record { me = p.me; peers = p.peers; epoch = p.epoch; clock = p.clock; mail = p.mail; store = p.store; nodes = p.nodes; handles = p.handles; dead = p.dead; numbers = p.numbers }) };
+    ghost view = { λ p. seen_of (record {
+      me = p.me;
+      peers = p.peers;
+      epoch = p.epoch;
+      clock = p.clock;
+      mail = p.mail;
+      store = p.store;
+      nodes = p.nodes;
+      handles = p.handles;
+      dead = p.dead;
+      numbers = p.numbers;
+    }) };
 
-    ghost invariant = { λ p. IsPeer (record { me = p.me; peers = p.peers; epoch = p.epoch; clock = p.clock; mail = p.mail; store = p.store; nodes = p.nodes; handles = p.handles; dead = p.dead; numbers = p.numbers }) };
+    ghost invariant = { λ p. IsPeer (record {
+      me = p.me;
+      peers = p.peers;
+      epoch = p.epoch;
+      clock = p.clock;
+      mail = p.mail;
+      store = p.store;
+      nodes = p.nodes;
+      handles = p.handles;
+      dead = p.dead;
+      numbers = p.numbers;
+    }) };
 }

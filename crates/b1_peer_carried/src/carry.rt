@@ -1,6 +1,6 @@
 //! Queued messages that carry nodes come in and leave.
 
-ghost use Rattle.std.specs.Prelude.{◌≡◌, ◌==◌, not, OnOk, OnErr};
+ghost use Rattle.std.specs.Prelude.{◌≡◌, ◌==◌, OnOk, OnErr};
 ghost use Rattle.b1_model.specs.MachineTables.{expected, unexpected, foreign};
 ghost use Rattle.b1_peer_carried.specs.Carry.{AreCarried, AreNeeded};
 

@@ -1,10 +1,10 @@
 //! The slots of a taken message arrive.
 
-ghost use Rattle.std.specs.Prelude.{◌≡◌, ◌==◌, ℕ, List, ◌+◌, ◌++◌, ◌∷◌, [], ◌<◌, ◌≤◌, ◌^◌, All, true, false, not, if◌then◌else◌, length, zip, vec_len, vec_capacity};
+ghost use Rattle.std.specs.Prelude.{◌≡◌, ℕ, List, ◌+◌, ◌++◌, ◌∷◌, [], ◌<◌, ◌≤◌, ◌^◌, All, true, if◌then◌else◌, length, zip, vec_len, vec_capacity};
 ghost use Rattle.b1_model.specs.Names.{invalid};
 ghost use Rattle.b1_model.specs.MachineParts.{PeerPart, record_or_none};
 ghost use Rattle.b1_model.specs.MachineTables.{foreign, unexpected};
-ghost use Rattle.b1_model.specs.MachineReceive.{Arriving, slot_arrives, slots_arrived, reference_arrives};
+ghost use Rattle.b1_model.specs.MachineReceive.{slot_arrives, slots_arrived, reference_arrives};
 ghost use Rattle.b1_nodes.specs.Nodes.{node_in};
 ghost use Rattle.b1_peer_carried.specs.Carry.{AreCarried, HasTables, arriving, may_arrive};
 

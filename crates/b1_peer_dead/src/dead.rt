@@ -22,7 +22,7 @@ pub struct DeadList {
 
 impl Model for DeadList {
     ghost use Rattle.b1_model.specs.declared.limits.TheConstants.{MOST_HANDLES};
-    ghost use Rattle.std.specs.Prelude.{◌≡◌, ℕ, ◌+◌, ◌≤◌, [], All, vec_len};
+    ghost use Rattle.std.specs.Prelude.{◌≡◌, ◌+◌, ◌≤◌, [], All, vec_len};
     ghost use Rattle.std.specs.Vec.{vec_capacity};
     ghost use Rattle.b1_peer_dead.specs.Dead.{DeadSeen};
 

@@ -22,7 +22,8 @@ impl<T> Model for Stock<T> {
 
     ghost view = { λ s. vec_len s.buffers };
 
-    ghost invariant = { λ s. All (λ b. (b.items ≡ []) × (MOST_HANDLES ≤ vec_capacity b)) s.buffers.items };
+    ghost invariant = { λ s. All (λ b. (b.items ≡ [])
+        × (MOST_HANDLES ≤ vec_capacity b)) s.buffers.items };
 }
 
 impl<T: Drop> Stock<T> {

@@ -1,6 +1,6 @@
 //! What is written into the slices of a pool.
 
-ghost use Rattle.std.specs.Prelude.{◌≡◌, ℕ, ◌+◌, ◌*◌, ◌≤◌, IsTrue, Some, None, length};
+ghost use Rattle.std.specs.Prelude.{◌≡◌, ◌+◌, ◌*◌, ◌≤◌, IsTrue, Some, None, length};
 ghost use Rattle.b1_model.specs.declared.tables.Usage.TheVariants.{Unpublished};
 ghost use Rattle.b1_model.specs.MachinePool.{slice_len, taken, taken_offset, slice_at};
 ghost use Rattle.b1_pool.specs.Bytes.{written};

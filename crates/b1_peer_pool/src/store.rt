@@ -1,6 +1,6 @@
 //! A peer's pool in the machine's words.
 
-ghost use Rattle.std.specs.Prelude.{◌≡◌, ℕ, ◌+◌, ◌*◌, ◌≤◌, IsTrue, IfOk, OnOk, Some, None, length, replicate, if◌then◌else◌};
+ghost use Rattle.std.specs.Prelude.{◌≡◌, ◌+◌, ◌*◌, ◌≤◌, IsTrue, IfOk, OnOk, Some, None, length, replicate, if◌then◌else◌};
 ghost use Rattle.b1_model.specs.declared.tables.Usage.TheVariants.{Unpublished};
 ghost use Rattle.b1_model.specs.MachinePool.{slice_len, taken, taken_offset, given_back, published, is_received, whole_pool, slice_at};
 ghost use Rattle.b1_pool.specs.Slices.{IsPoolSize};
@@ -30,9 +30,19 @@ impl<P: PoolKind> Model for Store<P> {
 
     ghost Value = { Stored };
 
-    ghost view = { λ s. record { size = s.size; slices = all_in_words (P.slices s.pool); bytes = P.content s.pool; spare = P.spare s.pool } };
+    ghost view = { λ s. record {
+      size = s.size;
+      slices = all_in_words (P.slices s.pool);
+      bytes = P.content s.pool;
+      spare = P.spare s.pool;
+    } };
 
-    ghost invariant = { λ s. IsStored (record { size = s.size; slices = all_in_words (P.slices s.pool); bytes = P.content s.pool; spare = P.spare s.pool }) };
+    ghost invariant = { λ s. IsStored (record {
+      size = s.size;
+      slices = all_in_words (P.slices s.pool);
+      bytes = P.content s.pool;
+      spare = P.spare s.pool;
+    }) };
 }
 
 impl<P: PoolKind> Store<P> {

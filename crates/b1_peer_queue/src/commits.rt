@@ -90,7 +90,9 @@ pub fn commit_in<Q: QueueKind>(
     ensures found { result ≡ is_some
         (find (is_stage origin index) (shown rows.old.entries.slots (Q.listed rows.old.queue))) }
     ensures shows { shown rows.new.entries.slots (Q.listed rows.new.queue)
-        ≡ committed_queue (find (is_stage origin index) (shown rows.old.entries.slots (Q.listed rows.old.queue))) origin index stamp slots.now (shown rows.old.entries.slots (Q.listed rows.old.queue)) }
+        ≡ committed_queue (find (is_stage origin index)
+        (shown rows.old.entries.slots (Q.listed rows.old.queue))) origin index stamp slots.now
+        (shown rows.old.entries.slots (Q.listed rows.old.queue)) }
     ensures spare { rows.new.spare ≡ rows.old.spare }
 {
     let Some((key, place)) = wanted_at(rows, Wanted::Stage { origin, index }) else {
@@ -125,7 +127,9 @@ fn restamp_first<Q: QueueKind>(rows: &mut Rows<Q>, origin: u32, stamp: u64) -> b
         ≡ notices_queue origin stamp (shown rows.old.entries.slots (Q.listed rows.old.queue)) }
     ensures fewer { length (staged_notices origin
         (shown rows.new.entries.slots (Q.listed rows.new.queue))) + (if result
-        then 1 else 0) ≡ length (staged_notices origin (shown rows.old.entries.slots (Q.listed rows.old.queue))) }
+        then 1 else 0)
+        ≡ length (staged_notices origin
+        (shown rows.old.entries.slots (Q.listed rows.old.queue))) }
     ensures done { result ≡ false
         → notices_queue origin stamp (shown rows.new.entries.slots (Q.listed rows.new.queue))
         ≡ shown rows.new.entries.slots (Q.listed rows.new.queue) }

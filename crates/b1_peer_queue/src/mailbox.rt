@@ -169,10 +169,14 @@ impl<Q: QueueKind> Mailbox<Q> {
     pub fn commit(&mut self, origin: u32, index: u32, stamp: u64, slots: &[Slot]) -> bool
         requires even { is_odd stamp ≡ false }
         requires committable { IsCommittable
-            (find (is_stage origin index) self.old.queue) origin index stamp slots.now self.old.queue }
+            (find (is_stage origin index) self.old.queue) origin index stamp slots.now
+            self.old.queue }
         ensures found { result ≡ is_some (find (is_stage origin index) self.old.queue) }
         ensures committed { self.new
-            ≡ record self.old { queue = committed_queue (find (is_stage origin index) self.old.queue) origin index stamp slots.now self.old.queue } }
+            ≡ record self.old {
+              queue = committed_queue (find (is_stage origin index) self.old.queue)
+                  origin index stamp slots.now self.old.queue;
+            } }
     {
         self.shelf.commit(origin, index, stamp, slots)
     }

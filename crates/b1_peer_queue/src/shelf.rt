@@ -31,9 +31,14 @@ impl<Q: QueueKind> Model for Shelf<Q> {
 
     ghost use Rattle.b1_peer_queue.specs.Rows.{IsTied, shown};
 
-    ghost view = { λ s. record { queue = shown s.rows.entries.slots (Q.listed s.rows.queue); spare = s.rows.spare } };
+    ghost view = { λ s. record {
+      queue = shown s.rows.entries.slots (Q.listed s.rows.queue);
+      spare = s.rows.spare;
+    } };
 
-    ghost invariant = { λ s. IsTied s.rows.spare s.rows.len (Q.spare s.rows.queue) (Q.room s.rows.queue) (Q.listed s.rows.queue) s.rows.entries (vec_capacity s.rows.marks) s.rows.marks.items };
+    ghost invariant = { λ s. IsTied s.rows.spare s.rows.len (Q.spare s.rows.queue)
+        (Q.room s.rows.queue) (Q.listed s.rows.queue) s.rows.entries
+        (vec_capacity s.rows.marks) s.rows.marks.items };
 }
 
 impl<Q: QueueKind> Shelf<Q> {
@@ -100,7 +105,8 @@ impl<Q: QueueKind> Shelf<Q> {
             NewKey (record { stamp = stamp; origin = origin; index = index }) self.old.queue) }
         ensures found { result ≡ is_some (find (is_stage origin index) self.old.queue) }
         ensures queue { self.new.queue
-            ≡ committed_queue (find (is_stage origin index) self.old.queue) origin index stamp slots.now self.old.queue }
+            ≡ committed_queue (find (is_stage origin index) self.old.queue)
+            origin index stamp slots.now self.old.queue }
         ensures spare { self.new.spare ≡ self.old.spare }
     {
         commit_in(&mut self.rows, origin, index, stamp, slots)

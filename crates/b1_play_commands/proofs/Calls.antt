@@ -14,8 +14,9 @@ use Rattle.b1_model.specs.Script.{resolved, ends_await, is_receipt, IsInPlace}
 use Rattle.b1_model.specs.MachineParts.{DriverPart}
 use Rattle.b1_model.specs.MachineDriver.{Turn, Goes, Ends}
 use Rattle.b1_model.specs.MachineTook.{is_done, answer_of, is_waiting, as_call, call_of, ended, goes_by, turned, fixed_call, open_by, driver_calls}
-use Rattle.b1_play_commands.specs.Following.{AllInPlace, asked, EndsWell, PhaseFits, TurnFits, IsOpen, Follows}
-use Rattle.b1_play_commands.proofs.Phases.{answered}
+use Rattle.b1_inv_answers.specs.Answers.{EndsWell, PhaseFits, TurnFits}
+use Rattle.b1_play_commands.specs.Following.{AllInPlace, asked, IsOpen, Follows}
+use Rattle.b1_inv_answers.proofs.Phases.{answered}
 
 -- ---- one call more
 

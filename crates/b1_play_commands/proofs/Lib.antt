@@ -1,5 +1,3 @@
-pub mod Phases
-pub mod Starts
 pub mod Calls
 pub mod Steps
 pub mod Plays

@@ -17,9 +17,10 @@ use Rattle.b1_step.proofs.Locality.{step_grows}
 use Rattle.b1_inv.specs.Words.{IsDriver}
 use Rattle.b1_inv.specs.Sends.{SendsRight}
 use Rattle.b1_inv_tools.proofs.Leaves.{Did, step_did, driver_cases}
-use Rattle.b1_play_commands.specs.Following.{AllInPlace, asked, TurnFits, Follows, AllFollow, AllEnd}
-use Rattle.b1_play_commands.proofs.Phases.{event_fits}
-use Rattle.b1_play_commands.proofs.Starts.{start_fits}
+use Rattle.b1_inv_answers.specs.Answers.{TurnFits}
+use Rattle.b1_play_commands.specs.Following.{AllInPlace, asked, Follows, AllFollow, AllEnd}
+use Rattle.b1_inv_answers.proofs.Phases.{event_fits}
+use Rattle.b1_inv_answers.proofs.Starts.{start_fits}
 use Rattle.b1_play_commands.proofs.Calls.{turned_follows}
 use Rattle.b1_inv_tools.proofs.Facts.{more_calls}
 

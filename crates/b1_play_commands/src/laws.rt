@@ -19,13 +19,17 @@ ghost use Rattle.b1_play_commands.specs.Following.{AllInPlace, Follows};
 pub fn a_play_follows_its_script()
     ensures drivers { (o : Opening) (lists : List (List Command)) (turns : List ℕ) (m : Shortage)
         (count : ℕ) → IsOpening o → ((s : State) → Reached o s → IsSound o s)
-        → (p : ℕ) (d : DriverPart) → slice_get (moves o lists m count (start_of o turns)).state.drivers p ≡ Some d → Follows (commands_of lists p) d }
+        → (p : ℕ) (d : DriverPart)
+        → slice_get (moves o lists m count (start_of o turns)).state.drivers p ≡ Some d
+        → Follows (commands_of lists p) d }
     ensures recorded { (o : Opening) (lists : List (List Command)) (turns : List ℕ) (m : Shortage)
         (count : ℕ) → IsOpening o → ((s : State) → Reached o s → IsSound o s)
-        → (p : ℕ) → AllInPlace (commands_of lists p) (calls_of (record_of_state (moves o lists m count (start_of o turns)).state) p) }
+        → (p : ℕ) → AllInPlace (commands_of lists p)
+        (calls_of (record_of_state (moves o lists m count (start_of o turns)).state) p) }
     ensures finished { (o : Opening) (lists : List (List Command)) (turns : List ℕ) (m : Shortage)
         (count : ℕ) → IsOpening o → ((s : State) → Reached o s → IsSound o s)
-        → (moves o lists m count (start_of o turns)).stage ≡ Finished → Script o lists (record_of_state (moves o lists m count (start_of o turns)).state) }
+        → (moves o lists m count (start_of o turns)).stage ≡ Finished
+        → Script o lists (record_of_state (moves o lists m count (start_of o turns)).state) }
 {}
 
 /// What is played is a record of the script: it has all commands of each list. What stalls has a part of each list, from
@@ -36,5 +40,6 @@ pub fn what_is_played_is_scripted()
         → IsPlay o lists turns r → Script o lists r }
     ensures stalled { (o : Opening) (lists : List (List Command)) (turns : List ℕ)
         (waiting : List ℕ) (r : Record) → IsOpening o → ((s : State) → Reached o s → IsSound o s)
-        → IsStall o lists turns waiting r → (p : ℕ) → AllInPlace (commands_of lists p) (calls_of r p) }
+        → IsStall o lists turns waiting r → (p : ℕ)
+        → AllInPlace (commands_of lists p) (calls_of r p) }
 {}

@@ -1,6 +1,6 @@
 //! A pool that keeps its slices in a list.
 
-ghost use Rattle.std.specs.Prelude.{◌+◌, ◌-◌, ◌<◌, length, Some, vec_len, if◌then◌else◌};
+ghost use Rattle.std.specs.Prelude.{◌+◌, ◌-◌, length, Some, vec_len};
 ghost use Rattle.std.specs.Vec.{vec_capacity};
 ghost use Rattle.b1_pool.specs.Slices.{IsPool};
 ghost use Rattle.b1_pool.specs.Bytes.{Shown};
@@ -26,7 +26,11 @@ impl Model for ListPool {
 
     ghost Value = { Shown };
 
-    ghost view = { λ p. record { slices = p.slices.items; bytes = p.bytes.items; spare = vec_capacity p.slices - vec_len p.slices } };
+    ghost view = { λ p. record {
+      slices = p.slices.items;
+      bytes = p.bytes.items;
+      spare = vec_capacity p.slices - vec_len p.slices;
+    } };
 
     ghost invariant = { λ p. IsPool (length p.bytes.items) p.slices.items };
 }

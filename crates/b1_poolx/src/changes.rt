@@ -1,8 +1,8 @@
 //! Changes of a list of slices and of the list of its free ones together.
 
-ghost use Rattle.std.specs.Prelude.{◌≡◌, ℕ, ◌+◌, ◌^◌, ◌<◌, ◌≤◌, length, true, false, IsTrue, Some, is_ok, if◌then◌else◌, slice_get, vec_len, slice_index_or};
+ghost use Rattle.std.specs.Prelude.{◌≡◌, ℕ, ◌+◌, ◌^◌, ◌<◌, ◌≤◌, length, true, IsTrue, Some, is_ok, if◌then◌else◌, vec_len};
 ghost use Rattle.std.specs.Vec.{vec_capacity};
-ghost use Rattle.b1_pool.specs.Slices.{slice_at, length_at, begins, is_fit, is_unpublished, is_published, is_used, IsLength, IsMerged, IsPool, merged, with_alloc, given_back};
+ghost use Rattle.b1_pool.specs.Slices.{slice_at, length_at, begins, is_fit, is_unpublished, is_published, IsLength, IsMerged, IsPool, merged, with_alloc, given_back};
 ghost use Rattle.b1_pool.specs.Places.{total, joined_at, freed_at};
 ghost use Rattle.b1_poolx.specs.Sizes.{by_size, IsUsedAt};
 

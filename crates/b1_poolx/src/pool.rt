@@ -1,7 +1,7 @@
 //! A pool that finds its free slices by size.
 
-ghost use Rattle.std.specs.Prelude.{◌≡◌, ℕ, ◌+◌, ◌-◌, ◌*◌, ◌^◌, ◌<◌, ◌≤◌, List, length, IsTrue, Some};
-ghost use Rattle.b1_pool.specs.Slices.{IsPool, best_fit};
+ghost use Rattle.std.specs.Prelude.{◌≡◌, ◌+◌, ◌-◌, ◌*◌, ◌^◌, ◌≤◌, length, Some};
+ghost use Rattle.b1_pool.specs.Slices.{best_fit};
 ghost use Rattle.b1_poolx.specs.Sizes.{free_count};
 
 use crate::changes::{cancel, release, take};
@@ -30,9 +30,14 @@ impl Model for SizedPool {
 
     ghost Value = { Shown };
 
-    ghost view = { λ p. record { slices = p.slices.items; bytes = p.bytes.items; spare = min (vec_capacity p.slices) (vec_capacity p.free) - vec_len p.slices } };
+    ghost view = { λ p. record {
+      slices = p.slices.items;
+      bytes = p.bytes.items;
+      spare = min (vec_capacity p.slices) (vec_capacity p.free) - vec_len p.slices;
+    } };
 
-    ghost invariant = { λ p. IsSized (length p.bytes.items) p.slices.items p.free.items (vec_capacity p.free) };
+    ghost invariant = { λ p. IsSized (length p.bytes.items) p.slices.items p.free.items
+        (vec_capacity p.free) };
 }
 
 impl SizedPool {

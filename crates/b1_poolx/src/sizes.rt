@@ -1,8 +1,7 @@
 //! A list of free slices in the order of their lengths and then of their offsets.
 
-ghost use Rattle.std.specs.Prelude.{◌≡◌, ℕ, nat_lt, ◌+◌, ◌-◌, ◌*◌, ◌^◌, ◌<◌, ◌≤◌, List, length, take, drop, insert, Some, None, vec_len};
+ghost use Rattle.std.specs.Prelude.{◌≡◌, nat_lt, ◌+◌, ◌-◌, ◌*◌, ◌^◌, ◌<◌, ◌≤◌, length, take, drop, insert, Some, None, vec_len};
 ghost use Rattle.std.specs.Vec.{vec_capacity};
-ghost use Rattle.b1_pool.specs.Slices.{is_before};
 ghost use Rattle.b1_poolx.specs.Sizes.{placed, without, IsBySize, last_length, first_long, AllBefore, NoneBefore, AllShorter, NoneShorter};
 
 use b1_cost::Steps;

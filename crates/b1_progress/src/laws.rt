@@ -1,4 +1,4 @@
-ghost use Rattle.std.specs.Prelude.{◌≡◌, ◌≢◌, ◌<◌, ℕ, None};
+ghost use Rattle.std.specs.Prelude.{◌≢◌, ◌<◌, ℕ, None};
 ghost use Rattle.b1_model.specs.declared.naming.Opening.{Opening};
 ghost use Rattle.b1_model.specs.MachineParts.{PeerPart, DriverPart, State};
 ghost use Rattle.b1_model.specs.MachineStep.{Step};

@@ -1,7 +1,7 @@
-ghost use Rattle.std.specs.Prelude.{◌≡◌, ◌+◌, ◌<◌, ◌≤◌, ◌^◌, ◌==◌, position, OnOk, [], length, true, false, ◌||◌};
+ghost use Rattle.std.specs.Prelude.{◌≡◌, ◌+◌, ◌<◌, ◌≤◌, ◌^◌, ◌==◌, position, OnOk};
 ghost use Rattle.b1_model.specs.MachineTables.{limit_of as limit_on};
 ghost use Rattle.b1_model.specs.declared.answers.Quantity.TheVariants.{Entries, Bytes, Handles};
-ghost use Rattle.b1_quota.specs.Accounts.{amount_in, own as own_charge, others as others_charge, total, with_charge, plus, minus, nothing, cleared, with_user, has_account, IsDistinct};
+ghost use Rattle.b1_quota.specs.Accounts.{amount_in, own as own_charge, others as others_charge, total, with_charge, plus, minus, cleared, with_user, has_account, IsDistinct};
 
 use b1_model::{Charge, Limits, Quantity};
 use std::alloc::AllocError;

@@ -15,7 +15,7 @@ use Rattle.b1_text_words.specs.declared.items.Form.TheVariants.{Report}
 use Rattle.b1_report_lines.specs.declared.lines.Line.{Line}
 use Rattle.b1_report_lines.specs.declared.lines.Line.TheVariants as line
 use Rattle.b1_report_lines.specs.declared.lines.Place.TheVariants as place
-use Rattle.b1_report_lines.specs.Lines.{line_text, next_place, MayStand, IsCall, call_line, count_line}
+use Rattle.b1_report_lines.specs.Lines.{IsCall, call_line, count_line}
 use Rattle.b1_report_lines.specs.Lines as of_lines
 use Rattle.b1_report.specs.Parsing.{HasCallFields, HasPeerFields, IsReport}
 use Rattle.b1_report.specs.Report.{calls_text, peer_text, report_text, IsWritten, HasSpelling, AllSpelled}

@@ -5,7 +5,7 @@ mod answers;
 mod drafts;
 mod parsing;
 
-ghost use Rattle.std.specs.Prelude.{◌≡◌, ◌++◌, ◌+◌, ◌-◌, ◌<◌, ℕ, List, IfOk, OnOk, length, string_bytes};
+ghost use Rattle.std.specs.Prelude.{◌≡◌, ◌++◌, ◌+◌, ◌-◌, ℕ, List, IfOk, OnOk, length, string_bytes};
 ghost use Rattle.b1_model.specs.declared.records.Record.{Record};
 ghost use Rattle.b1_report.specs.Parsing.{HasRecordFields, IsReport, IsFault};
 ghost use Rattle.b1_report.specs.Report.{call_text, calls_text, peer_text, peers_text, report_text, HasSpelling, AllSpelled, EachSpelled};

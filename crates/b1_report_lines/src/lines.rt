@@ -1,5 +1,5 @@
-ghost use Rattle.std.specs.Prelude.{◌≡◌, ◌≤◌};
-ghost use Rattle.b1_report_lines.specs.Lines.{IsPlace, TellsLine, TellsCall, count_line};
+ghost use Rattle.std.specs.Prelude.{◌≤◌};
+ghost use Rattle.b1_report_lines.specs.Lines.{IsPlace, TellsLine, count_line};
 ghost use Rattle.b1_report_lines.specs.Markers.{fixed_at, peer_at, marker_at};
 ghost use Rattle.b1_report_lines.specs.Reading.{Gives};
 

@@ -1,4 +1,4 @@
-ghost use Rattle.std.specs.Prelude.{◌≡◌, ◌+◌, ℕ, true, false, ◌∷◌, [], Some, None, length, slice_get};
+ghost use Rattle.std.specs.Prelude.{◌≡◌, ◌+◌, ℕ, true, false, ◌∷◌, [], Some, None, slice_get};
 ghost use Rattle.std.specs.Prelude.{Option as Maybe, Bool as Bit, List as Listed};
 ghost use Rattle.b1_model.specs.declared.naming.Opening.{Opening};
 ghost use Rattle.b1_model.specs.declared.commands.Command.{Command};

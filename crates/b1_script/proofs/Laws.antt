@@ -1,8 +1,8 @@
 -- What is read of a whole script is spelled so, and what is spelled so is read.
-use Rattle.std.proofs.Common.{◌≡◌, ◌≢◌, ℕ, zero, suc, ◌+◌, ◌-◌, ◌*◌, ◌%◌, ◌^◌, ◌<◌, ◌≤◌, Bool, true, false, cond, eqb, ltb, List, [], ◌∷◌, ◌++◌, length, take, drop, Option, Some, None, Result, Ok, Err, refl, sym, ap, subst, ◌∙◌, append_assoc, arith, eq-eqb}
+use Rattle.std.proofs.Common.{◌≡◌, ℕ, ◌+◌, ◌-◌, ◌*◌, ◌<◌, ◌≤◌, Bool, true, false, cond, eqb, ltb, List, [], ◌∷◌, ◌++◌, length, take, drop, None, Result, Ok, Err, refl, sym, ap, subst, ◌∙◌, arith, eq-eqb}
 use Rattle.std.specs.Prelude.{IfOk}
 use Rattle.std.specs.List.{flat_map, AllByRecursion}
-use Rattle.std.proofs.lemmas.Bool.{eqb-true, ltb-false, le-ltb}
+use Rattle.std.proofs.lemmas.Bool.{eqb-true, le-ltb}
 use Rattle.std.proofs.lemmas.List.{length-append, take_all}
 use Rattle.std.proofs.lemmas.List.Concat.{flat_map-cons}
 use Rattle.b1_errs.specs.declared.Cause.TheVariants as causes
@@ -10,19 +10,18 @@ use Rattle.b1_errs.specs.declared.NotRead.{NotRead}
 use Rattle.b1_model.specs.declared.commands.Command.{Command}
 use Rattle.b1_model.specs.declared.commands.Command.TheVariants.{Disconnect, Query, Reset, Limit, Release, Destroy, SliceRelease, Send, Recv, Await}
 use Rattle.b1_model.specs.declared.limits.TheConstants.{MOST_FILE_PEERS, MOST_SCRIPT}
-use Rattle.b1_model.specs.declared.naming.PeerSpec.{PeerSpec}
 use Rattle.b1_model.specs.declared.naming.Wire.{Wire}
-use Rattle.b1_model.specs.Opening.{AreWired, HasPool, IsOpening}
+use Rattle.b1_model.specs.Opening.{AreWired, HasPool}
 use Rattle.b1_model.proofs.Pools.{few_pools}
-use Rattle.b1_wire.specs.Numbers.{u32_bytes, u64_bytes}
-use Rattle.b1_records.specs.Spelling.{IsWithin, HasNumbers, Is32, IsByte, Stands}
+use Rattle.b1_wire.specs.Numbers.{u32_bytes}
+use Rattle.b1_records.specs.Spelling.{IsWithin, HasNumbers, Is32, Stands}
 use Rattle.b1_records.specs.Spelling as records
 use Rattle.b1_records.specs.Reading.{◌>>=◌, Read, Fault, Gives, fault_of}
-use Rattle.b1_records.proofs.Formats.{IsBytes, IsFormat, bind_ok, guard_ok, passed_ok, ok_is, stands_join, stands_split, stands_nothing}
-use Rattle.b1_records.proofs.Records.{Fits, fault_or_value, each_byte}
+use Rattle.b1_records.proofs.Formats.{IsBytes, bind_ok, passed_ok, ok_is, stands_join, stands_split}
+use Rattle.b1_records.proofs.Records.{Fits, fault_or_value}
 use Rattle.b1_script.specs.declared.header.Header.{Header}
 use Rattle.b1_script.specs.declared.script.Script.{Script}
-use Rattle.b1_script.specs.Spelling.{header_len, peer_spelling, wire_spelling, commands_spelling, pad_spelling, parts, header_spelling, spelling, HasSpelling, IsSpec, IsWire, HasFields, IsScript, IsWhole}
+use Rattle.b1_script.specs.Spelling.{header_len, peer_spelling, wire_spelling, commands_spelling, pad_spelling, parts, header_spelling, spelling, HasSpelling, IsSpec, HasFields, IsScript, IsWhole}
 use Rattle.b1_script.specs.Reading.{header_at, parts_at, script_at, whole_at, to_the_end, len_place, bad_script, bad}
 use Rattle.b1_script.proofs.Scripts.{htext1, IsHeader, header_format, IsPeer, CommandsFit, PartsFit, parts_format}
 

@@ -1,30 +1,27 @@
 -- What is read of a script is spelled so, and what is spelled so is read.
-use Rattle.std.proofs.Common.{◌≡◌, ◌≢◌, ℕ, zero, suc, ◌+◌, ◌-◌, ◌%◌, ◌^◌, ◌<◌, ◌≤◌, Bool, true, false, ◌&&◌, not, cond, eqb, leb, ltb, List, [], ◌∷◌, ◌++◌, length, Option, Some, None, Result, Ok, Err, refl, sym, ap, subst, ◌∙◌, append_assoc, arith}
-use Rattle.std.specs.Prelude.{IfOk, IsSomeAnd}
+use Rattle.std.proofs.Common.{◌≡◌, ◌≢◌, ℕ, zero, suc, ◌+◌, ◌-◌, ◌%◌, ◌<◌, ◌≤◌, Bool, true, false, ◌&&◌, not, cond, eqb, leb, ltb, List, [], ◌∷◌, ◌++◌, length, Option, Some, None, Ok, refl, sym, ap, subst, ◌∙◌, append_assoc, arith}
+use Rattle.std.specs.Prelude.{IsSomeAnd}
 use Rattle.std.specs.Option.{option_map_or}
 use Rattle.std.specs.List.{flat_map, AllByRecursion}
-use Rattle.std.proofs.lemmas.Bool.{leb-true, le-leb, eqb-true, eqb-false, ne_eqb, not-true, not_from_false, ltb-true, lt-ltb, ltb-false, le-ltb}
-use Rattle.std.proofs.lemmas.List.{append-nil, length-append}
+use Rattle.std.proofs.lemmas.Bool.{leb-true, le-leb, eqb-true, eqb-false, ne_eqb, not-true, not_from_false, ltb-true, lt-ltb}
+use Rattle.std.proofs.lemmas.List.{append-nil}
 use Rattle.std.proofs.lemmas.List.Concat.{flat_map-cons}
 use Rattle.b1_errs.specs.declared.Cause.TheVariants as causes
-use Rattle.b1_errs.specs.declared.NotRead.{NotRead}
 use Rattle.b1_model.specs.declared.commands.Command.{Command}
 use Rattle.b1_model.specs.declared.limits.TheConstants.{CLOCK_LIMIT, MOST_FILE_PEERS, MOST_POOL}
-use Rattle.b1_model.specs.declared.naming.Limits.{Limits}
-use Rattle.b1_model.specs.declared.naming.Opening.{Opening}
 use Rattle.b1_model.specs.declared.naming.PeerSpec.{PeerSpec}
 use Rattle.b1_model.specs.declared.naming.Wire.{Wire}
-use Rattle.b1_model.specs.Opening.{from_owner, after_wire, CanWire, AreWired, IsPool, HasPool, IsOpening}
+use Rattle.b1_model.specs.Opening.{from_owner, after_wire, CanWire, AreWired, IsPool, HasPool}
 use Rattle.b1_wire.specs.Numbers.{u32_bytes, u64_bytes}
-use Rattle.b1_records.specs.Spelling.{IsWithin, HasNumbers, Is32, Is64, AreLimits, Stands}
+use Rattle.b1_records.specs.Spelling.{Is32, Is64, Stands}
 use Rattle.b1_records.specs.Spelling as records
-use Rattle.b1_records.specs.Reading.{◌>>=◌, Read, Fault, checked, many, number_at, long_number_at, zero_at, command_at}
-use Rattle.b1_records.proofs.Formats.{IsBytes, IsFormat, bind_ok, guard_ok, passed_ok, ok_is, done, stands_join, stands_split, stands_nothing, convert, number_format, long_number_format, checked_format, pure_format, seq_format, many_format}
+use Rattle.b1_records.specs.Reading.{◌>>=◌, Read, checked, number_at, long_number_at, zero_at, command_at}
+use Rattle.b1_records.proofs.Formats.{IsBytes, IsFormat, bind_ok, ok_is, stands_join, stands_split, stands_nothing, convert, number_format, long_number_format, checked_format, pure_format, seq_format, many_format}
 use Rattle.b1_records.proofs.Records.{zero_format, both_true, command_format, Fits}
 use Rattle.b1_script.specs.declared.header.Header.{Header}
 use Rattle.b1_script.specs.declared.script.Script.{Script}
-use Rattle.b1_script.specs.Spelling.{header_len, peer_spelling, wire_spelling, commands_spelling, pad_spelling, parts, header_spelling, spelling, HasSpelling, IsSpec, IsWire, HasFields, IsScript}
-use Rattle.b1_script.specs.Reading.{magic_number, is_first_clock, is_pool, gives_foreign, magic_at, version_at, peer_count_at, clock_at, header_at, pool_at, peer_at, peers_at, peer_number_at, other_number_at, wire_at, wires_at, command_list_at, commands_at, lists_at, turns_at, pad_at, parts_at, script_at, whole_at, to_the_end, len_place}
+use Rattle.b1_script.specs.Spelling.{peer_spelling, wire_spelling, commands_spelling, pad_spelling, parts, spelling, IsSpec, IsWire}
+use Rattle.b1_script.specs.Reading.{magic_number, is_first_clock, is_pool, gives_foreign, magic_at, version_at, peer_count_at, clock_at, header_at, pool_at, peer_at, peers_at, peer_number_at, other_number_at, wire_at, wires_at, command_list_at, commands_at, lists_at, turns_at, pad_at, parts_at}
 
 both_are : (a b : Bool) → a ≡ true → b ≡ true → (a && b) ≡ true
 both_are a b p q = rw (p, q) refl

@@ -1,11 +1,11 @@
 -- Reading wires one after the other, as a loop does.
-use Rattle.std.proofs.Common.{◌≡◌, ℕ, suc, ◌-◌, ◌+◌, ◌≤◌, ◌<◌, List, [], ◌∷◌, ◌++◌, Result, Ok, Err, refl, sym, ap, ◌∙◌, append_assoc, arith}
+use Rattle.std.proofs.Common.{◌≡◌, ℕ, suc, ◌-◌, ◌+◌, ◌≤◌, ◌<◌, List, [], ◌∷◌, ◌++◌, Ok, Err, refl, sym, ap, ◌∙◌, arith}
 use Rattle.std.proofs.lemmas.List.{append-nil}
 use Rattle.b1_errs.specs.declared.NotRead.{NotRead}
 use Rattle.b1_errs.specs.declared.NotRead.TheVariants.{Bad, Memory}
 use Rattle.b1_model.specs.declared.naming.Wire.{Wire}
 use Rattle.b1_model.specs.Opening.{after_wire}
-use Rattle.b1_records.specs.Reading.{◌>>=◌, Read, Fault, Fails}
+use Rattle.b1_records.specs.Reading.{Read, Fails}
 use Rattle.b1_records.proofs.Loop.{with_front, regroup}
 use Rattle.b1_script.specs.Reading.{wire_at, wires_at}
 

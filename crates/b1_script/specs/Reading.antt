@@ -1,5 +1,5 @@
 -- Reading a script from left to right, with the first rule that is broken.
-use Rattle.std.specs.Prelude.{ℕ, zero, suc, ◌+◌, ◌%◌, Bool, true, false, ◌&&◌, ◌==◌, not, nat_lt, nat_le, if◌then◌else◌, List, [], ◌∷◌, length, Option, Some, None, Result, Ok, Err}
+use Rattle.std.specs.Prelude.{ℕ, zero, suc, ◌%◌, Bool, false, ◌&&◌, ◌==◌, not, nat_lt, nat_le, if◌then◌else◌, List, [], ◌∷◌, length, Option, None, Result, Ok, Err}
 use Rattle.std.specs.Option.{option_map_or}
 use Rattle.b1_errs.specs.declared.Cause.TheVariants as causes
 use Rattle.b1_model.specs.declared.commands.Command.{Command}
@@ -7,10 +7,9 @@ use Rattle.b1_model.specs.declared.limits.TheConstants.{CLOCK_LIMIT, MOST_FILE_P
 use Rattle.b1_model.specs.declared.naming.PeerSpec.{PeerSpec}
 use Rattle.b1_model.specs.declared.naming.Wire.{Wire}
 use Rattle.b1_model.specs.Opening.{from_owner, after_wire}
-use Rattle.b1_records.specs.Reading.{◌>>=◌, Read, Fault, fault_of, checked, many, number_at, long_number_at, zero_at, command_at}
+use Rattle.b1_records.specs.Reading.{Read, Fault, fault_of, checked, many, number_at, long_number_at, zero_at, command_at}
 use Rattle.b1_script.specs.declared.header.Header.{Header}
 use Rattle.b1_script.specs.declared.script.Script.{Script}
-use Rattle.b1_script.specs.Spelling.{header_len}
 
 -- the number whose bytes are `BUS1SCR1`
 abbrev pub magic_number : ℕ

@@ -1,4 +1,3 @@
-ghost use Rattle.std.specs.Prelude.{◌≡◌};
 ghost use Rattle.b1_records.specs.Reading.{Gives};
 ghost use Rattle.b1_script.specs.Reading.{command_list_at, commands_at, lists_at, turns_at, pad_at};
 

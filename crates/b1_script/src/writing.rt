@@ -1,9 +1,9 @@
-ghost use Rattle.std.specs.Prelude.{◌≡◌, ◌≤◌, ◌<◌, ◌^◌, ◌++◌, length, OnOk, IfOk};
+ghost use Rattle.std.specs.Prelude.{◌≡◌, ◌≤◌, ◌++◌, length, OnOk, IfOk};
 ghost use Rattle.std.specs.List.{flat_map, AllByRecursion};
 ghost use Rattle.b1_wire.specs.Numbers.{u32_bytes};
 ghost use Rattle.b1_records.specs.Spelling.{IsWithin};
 ghost use Rattle.b1_records.specs.Spelling as records;
-ghost use Rattle.b1_script.specs.Spelling.{header_len, peer_spelling, wire_spelling, commands_spelling, pad_spelling, parts, name_spelling, start_spelling, sizes_spelling, header_spelling, spelling, HasSpelling};
+ghost use Rattle.b1_script.specs.Spelling.{peer_spelling, wire_spelling, commands_spelling, pad_spelling, parts, name_spelling, start_spelling, sizes_spelling, header_spelling, spelling, HasSpelling};
 
 use crate::header::MAGIC;
 use crate::script::Script;

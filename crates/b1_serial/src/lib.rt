@@ -3,7 +3,7 @@
 //! The definition stands in `specs/Serial.antt`. The law says that what it gives is legal, whole, and the script's.
 #![tactic(auto)]
 
-ghost use Rattle.std.specs.Prelude.{ℕ, List, Option};
+ghost use Rattle.std.specs.Prelude.{List};
 ghost use Rattle.b1_model.specs.declared.naming.Opening.{Opening};
 ghost use Rattle.b1_model.specs.declared.commands.Command.{Command};
 ghost use Rattle.b1_model.specs.Legal.{Legal, Whole};

@@ -2,3 +2,4 @@ pub mod Standing
 pub mod Rest
 pub mod Alone
 pub mod Unheld
+pub mod Whole

@@ -1,6 +1,6 @@
 //! Values worked out by hand, and both kinds of pool beside each other.
 
-ghost use Rattle.std.specs.Prelude.{◌≡◌, ℕ, ◌%◌, ◌<◌, ◌≤◌};
+ghost use Rattle.std.specs.Prelude.{◌≡◌, ◌%◌, ◌<◌, ◌≤◌};
 
 use b1_cost::Steps;
 use b1_pool::{ListPool, Memory, PoolKind};

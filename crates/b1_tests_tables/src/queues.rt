@@ -1,6 +1,6 @@
 //! Values worked out by hand, and both kinds of queue beside each other.
 
-ghost use Rattle.std.specs.Prelude.{◌≡◌, ℕ, ◌+◌, ◌<◌, ◌≤◌, [], All};
+ghost use Rattle.std.specs.Prelude.{◌≡◌, ◌+◌, ◌<◌, ◌≤◌, [], All};
 
 use b1_cost::Steps;
 use b1_heap::IndexedHeap;

@@ -1,6 +1,6 @@
 //! Values worked out by hand.
 
-ghost use Rattle.std.specs.Prelude.{ℕ, ◌+◌, ◌*◌, ◌≤◌, length};
+ghost use Rattle.std.specs.Prelude.{◌≤◌, length};
 
 use b1_model::{MOST_HANDLES, MOST_PAYLOAD, Reason};
 use b1_peer_pool::{Store, padded_length};

@@ -13,7 +13,7 @@ use Rattle.b1_text_words.specs.Items.{item_text, IsItem, IsBounded}
 use Rattle.b1_text_words.specs.Lines.{IsWord, IsLine, IsBoundedKind, is_separator, is_free_of, are_free_of}
 use Rattle.b1_text_words.specs.Numbers.{list_text, hex_text, hex_pair, hex_digit}
 use Rattle.b1_text_words.specs.Words.{Spells, Begins, IsFree}
-use Rattle.b1_text_words.proofs.Alphabets.{IsPlain, plain_item, plain_decimal, all_append, all_like}
+use Rattle.b1_text_words.proofs.Alphabets.{IsPlain, plain_item, all_append, all_like}
 use Rattle.b1_text_words.proofs.Languages.{joined_words, joined_none, first_begins, begins_first, not_free}
 use Rattle.b1_text_words.proofs.References.{free_from}
 

@@ -1,5 +1,4 @@
-use Rattle.std.proofs.Common.{◌≡◌, ◌≤◌, ◌+◌, ◌-◌, ℕ, length}
-use Rattle.std.specs.Prelude.{vec_len}
+use Rattle.std.proofs.Common.{◌≡◌, ◌≤◌, ◌+◌, ℕ, length}
 use Rattle.std.specs.Vec.{vec_capacity}
 use Rattle.b1_entry.specs.Table.{entry_at}
 use Rattle.b1_entry.specs.Places.{AreVacant}

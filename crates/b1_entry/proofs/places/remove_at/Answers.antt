@@ -1,7 +1,5 @@
-use Rattle.std.proofs.Common.{◌≡◌, ◌∙◌, sym, subst, get_or, set, refl, None, Some, Option, IsSome, arith}
+use Rattle.std.proofs.Common.{◌≡◌, ◌∙◌, sym, refl, None, Some, IsSome, arith}
 use Rattle.std.proofs.lemmas.List.{get_or_default}
-use Rattle.b1_model.specs.declared.entries.Entry.{Entry}
-use Rattle.b1_entry.specs.Places.{AreVacant}
 use Rattle.b1_entry.specs.Table.{entry_at}
 use Rattle.b1_entry.proofs.PlaceLemmas.{vacant_removed}
 use Rattle.b1_entry.proofs.places.remove_at.Goals as goal

@@ -1,4 +1,4 @@
-use Rattle.std.proofs.Common.{ℕ, Ok, subst, arith}
+use Rattle.std.proofs.Common.{subst, arith}
 use Rattle.b1_records.specs.Reading.{Gives, Read}
 use Rattle.b1_script.specs.declared.script.Script.{Script}
 use Rattle.b1_script.proofs.Laws.{answer_found, script_read}

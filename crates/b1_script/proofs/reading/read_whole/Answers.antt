@@ -1,4 +1,4 @@
-use Rattle.std.proofs.Common.{Result, Ok, subst, arith}
+use Rattle.std.proofs.Common.{Result, subst, arith}
 use Rattle.b1_records.specs.Reading.{Gives, Fault}
 use Rattle.b1_script.specs.declared.script.Script.{Script}
 use Rattle.b1_script.proofs.Laws.{whole_answer, whole_read}

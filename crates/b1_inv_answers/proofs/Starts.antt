@@ -28,8 +28,8 @@ use Rattle.b1_model.specs.MachineDestroy.{is_not_live, live_serial, destroy_refu
 use Rattle.b1_model.specs.MachineDriver.{send_of, refused_at, first_action, next_action, is_flushing, destroying, started, phase_action, turn}
 use Rattle.b1_model.specs.MachineEvents.{happens, begin_by, destroy_by, begin_refusal, begin_serials, local_answer, number_of}
 use Rattle.b1_inv.specs.Notices.{IsDestroying}
-use Rattle.b1_play_commands.specs.Following.{EndsWell, PhaseFits, TurnFits}
-use Rattle.b1_play_commands.proofs.Phases.{refused_well, visiting_fits}
+use Rattle.b1_inv_answers.specs.Answers.{EndsWell, PhaseFits, TurnFits}
+use Rattle.b1_inv_answers.proofs.Phases.{refused_well, visiting_fits}
 use Rattle.b1_inv_tools.proofs.Facts.{next_of, next_owed, destroy_waits}
 
 -- ---- a NODES_DESTROY that isn't refused dooms some node

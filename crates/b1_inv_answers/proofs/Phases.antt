@@ -26,7 +26,7 @@ use Rattle.b1_inv.specs.Words.{is_accepted_place}
 use Rattle.b1_inv.specs.Sends.{IsBegun, SendShape}
 use Rattle.b1_inv.specs.Notices.{IsDestroying}
 use Rattle.b1_inv_sends.proofs.Places.{next_accepted_place}
-use Rattle.b1_play_commands.specs.Following.{PlacesFit, EndsWell, PhaseFits, TurnFits}
+use Rattle.b1_inv_answers.specs.Answers.{PlacesFit, EndsWell, PhaseFits, TurnFits}
 
 -- ---- places
 
