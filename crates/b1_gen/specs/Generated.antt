@@ -1,5 +1,5 @@
 -- The script of a number: in each phase each peer sends one message to the peers that match it, and takes what they send.
-use Rattle.std.specs.Prelude.{ℕ, ◌+◌, ◌-◌, ◌*◌, ◌%◌, ◌==◌, Bool, false, not, ◌&&◌, nat_lt, if◌then◌else◌, List, [], ◌∷◌, map, filter, length, sum_by, replicate, None}
+use Rattle.std.specs.Prelude.{ℕ, ◌+◌, ◌-◌, ◌*◌, ◌%◌, ◌==◌, Bool, false, not, ◌&&◌, nat_lt, if◌then◌else◌, List, [], ◌∷◌, map, filter, length, sum_by, replicate, slice_get, None, Some, true, ◌≡◌, ◌/◌}
 use Rattle.std.specs.List.{flat_map, range_with_len}
 use Rattle.b1_model.specs.declared.commands.Command.{Command}
 use Rattle.b1_model.specs.declared.commands.Command.TheVariants.{Send, Await, SliceRelease}
@@ -7,6 +7,8 @@ use Rattle.b1_model.specs.declared.naming.Limits.{Limits}
 use Rattle.b1_model.specs.declared.naming.Opening.{Opening}
 use Rattle.b1_model.specs.declared.naming.PeerSpec.{PeerSpec}
 use Rattle.b1_model.specs.declared.naming.Wire.{Wire}
+use Rattle.b1_model.specs.Names.{is_given}
+use Rattle.b1_model.specs.Opening.{held_by}
 use Rattle.b1_script.specs.declared.script.Script.{Script}
 use Rattle.b1_gen.specs.declared.numbers.TheConstants.{PHASES, POOL, MOST_ENTRIES, MOST_BYTES, MOST_HANDLES, NODE}
 
@@ -39,6 +41,11 @@ wires_of n p = map (node_wire p) (others n p)
 -- every clock begins at 0, and each peer holds the nodes of all others
 abbrev pub opening_of : ℕ → Opening
 opening_of n = record { first_clock = 0; peers = map peer_spec (below n); wires = flat_map (wires_of n) (below n) }
+
+-- at p a given number names the node of another peer: the wires to a peer give it 2, 6, 10 and so on, in their order
+pub record NamesNodeOf (o : Opening) (p number owner : ℕ) : Type 0 where
+  pub given : is_given number ≡ true
+  pub wire : slice_get (held_by o.wires p) (number / 4) ≡ Some (node_wire owner p)
 
 -- ---- the commands
 

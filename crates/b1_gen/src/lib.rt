@@ -2,9 +2,11 @@
 #![tactic(auto)]
 
 mod commands;
+mod laws;
 mod numbers;
 mod opening;
 mod script;
 
+pub use laws::{every_destination_is_held, every_generated_script_has_a_spelling};
 pub use numbers::PHASES;
 pub use script::generate;

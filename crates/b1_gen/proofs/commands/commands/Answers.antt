@@ -8,9 +8,10 @@ loop-phase-init c = (c.new-commands.ensures.items ∙ sym (commands_before-none 
 
 pub loop-phase-preserved : goal.loop-phase-preserved
 loop-phase-preserved c = (
-    rw c.in_ok-taken.ensures.commands (rw c.loop-phase.invariant.0 (sym (commands_before-more _ _ _))),
-    rw (c.in_ok-taken.ensures.count, c.loop-phase.invariant.1) (sym (sum_by-below (λ j. length (partners c.args.number j c.args.peer)) c.loop-phase.phase)),
-    omega (arith, c.in_ok-taken.ensures.few, c.loop-phase.invariant.2))
+  rw c.in_ok-taken.ensures.commands (rw c.loop-phase.invariant.0 (sym (commands_before-more _ _ _))),
+  rw (c.in_ok-taken.ensures.count, c.loop-phase.invariant.1) (sym (sum_by-below (λ j. length (partners c.args.number j c.args.peer)) c.loop-phase.phase)),
+  omega (arith, c.in_ok-taken.ensures.few, c.loop-phase.invariant.2),
+)
 
 pub returns : goal.returns
 unfolding commands_of

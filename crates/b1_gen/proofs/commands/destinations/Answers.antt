@@ -13,7 +13,7 @@ loop-other-preserved c = elim c.if-do_match.branch [
       push-chosen (handle_at c.args.peer) (matches c.args.number c.args.phase c.args.peer) c.loop-other.other [] _ _ c.loop-other.invariant (ap (λ v. v.items) w.to-is ∙ w.in_ok-push.ensures.items ∙ ap (λ h. c.loop-other.to.items ++ h ∷ []) w.handle_of.ensures) (sym c.do_match.ensures ∙ w.if-do_match.true)
   | else-do_match w ↦
       keep-chosen (handle_at c.args.peer) (matches c.args.number c.args.phase c.args.peer) c.loop-other.other [] _ _ c.loop-other.invariant (ap (λ v. v.items) w.to-is) (sym c.do_match.ensures ∙ w.if-do_match.false)
-  ]
+]
 
 pub returns-clause-few : goal.returns-clause-few
 returns-clause-few c =

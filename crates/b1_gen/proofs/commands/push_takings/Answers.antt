@@ -12,5 +12,5 @@ pub loop-receipt-preserved : goal.loop-receipt-preserved
 loop-receipt-preserved c =
     let so_many : c.loop-receipt.receipt - c.args.first + 1 ≡ c.loop-receipt.receipt + 1 - c.args.first = omega arith in
     subst (λ n. c.push-in-loop-receipt.new.self.items ≡ c.args.commands.now.items ++ flat_map taking (range_with_len c.args.first n)) so_many
-      (push-range taking c.args.first _ c.loop-receipt.receipt _ _ _ (omega arith) c.loop-receipt.invariant
-        (both _ _ _ (Await ∷ []) (SliceRelease (2 * c.loop-receipt.receipt + 1) ∷ []) c.in_ok-push.ensures.items c.in_ok-push-2.ensures.items))
+    (push-range taking c.args.first _ c.loop-receipt.receipt _ _ _ (omega arith) c.loop-receipt.invariant
+    (both _ _ _ (Await ∷ []) (SliceRelease (2 * c.loop-receipt.receipt + 1) ∷ []) c.in_ok-push.ensures.items c.in_ok-push-2.ensures.items))

@@ -13,4 +13,4 @@ loop-to-preserved c = elim c.if-to-from.branch [
   | else-to-from w ↦
       let fails : not (c.loop-to.to == c.args.from) ≡ false = grind (arith, common_steps) in
       keep-chosen (node_wire c.args.from) (λ q. not (q == c.args.from)) c.loop-to.to c.args.wires.now.items _ _ c.loop-to.invariant (ap (λ v. v.items) w.wires-is) fails
-  ]
+]
