@@ -1,16 +1,15 @@
 -- The opening of a generated script is one that a bus can begin with.
-use Rattle.std.proofs.Common.{◌≡◌, ◌≢◌, ℕ, zero, suc, ◌+◌, ◌*◌, ◌%◌, ◌==◌, ◌≤◌, ◌<◌, Bool, true, false, not, cond, List, [], ◌∷◌, ◌++◌, map, length, refl, sym, ap, ◌∙◌, arith, subst}
-use Rattle.std.specs.List.{flat_map, range_with_len, filter, sum_by, AllByRecursion}
+use Rattle.std.proofs.Common.{◌≡◌, ◌≢◌, ℕ, ◌*◌, ◌==◌, ◌≤◌, ◌<◌, true, not, List, [], ◌∷◌, map, length, refl, sym, ◌∙◌, arith, subst}
+use Rattle.std.specs.List.{AllByRecursion}
 use Rattle.std.proofs.Math.Nat.{mul-le-mul_left}
 use Rattle.std.proofs.lemmas.Grind.{common_steps}
 use Rattle.std.proofs.lemmas.List.{length-map}
 use Rattle.std.proofs.lemmas.List.FromFn.{length-range_with_len}
 use Rattle.std.proofs.lemmas.List.Sums.{sum_by-cons}
-use Rattle.b1_model.specs.declared.naming.Opening.{Opening}
 use Rattle.b1_model.specs.declared.naming.PeerSpec.{PeerSpec}
 use Rattle.b1_model.specs.declared.naming.Wire.{Wire}
 use Rattle.b1_model.specs.Opening.{after_wire, CanWire, AreWired, HasPool, pool_bytes, IsOpening}
-use Rattle.b1_gen.specs.Generated.{below, peer_count, peer_spec, node_wire, others, wires_of, opening_of}
+use Rattle.b1_gen.specs.Generated.{below, peer_spec, node_wire, others, wires_of, opening_of}
 use Rattle.b1_gen.proofs.Rising.{filter-few}
 use Rattle.b1_gen.proofs.Each.{each-map, each-flat_map, each-filter, each-below, flat_map-most}
 

@@ -1,19 +1,18 @@
 -- A generated script has a spelling, which is short.
-use Rattle.std.proofs.Common.{◌≡◌, ℕ, zero, suc, ◌+◌, ◌-◌, ◌*◌, ◌/◌, ◌%◌, ◌≤◌, ◌<◌, List, [], ◌∷◌, ◌++◌, map, length, refl, sym, ap, ◌∙◌, arith, subst, length-append}
+use Rattle.std.proofs.Common.{◌≡◌, ℕ, ◌+◌, ◌-◌, ◌*◌, ◌%◌, ◌≤◌, List, [], ◌∷◌, ◌++◌, map, length, refl, sym, ◌∙◌, arith, subst, length-append}
 use Rattle.std.specs.Prelude.{replicate}
 use Rattle.std.specs.List.{flat_map, range_with_len, AllByRecursion}
-use Rattle.std.proofs.Math.Nat.{mul-le-mul_left, mul-le-mul_right}
 use Rattle.std.proofs.lemmas.List.{length-map, length-replicate}
 use Rattle.std.proofs.lemmas.List.FromFn.{length-range_with_len}
 use Rattle.b1_model.specs.declared.commands.Command.{Command}
 use Rattle.b1_model.specs.declared.naming.Opening.{Opening}
-use Rattle.b1_wire.specs.Numbers.{u32_bytes, u64_bytes}
+use Rattle.b1_wire.specs.Numbers.{u64_bytes}
 use Rattle.b1_records.specs.Spelling.{IsWithin, padded, rounded}
 use Rattle.b1_records.specs.Spelling as records
-use Rattle.b1_script.specs.Spelling.{peer_spelling, wire_spelling, commands_spelling, parts, HasSpelling}
+use Rattle.b1_script.specs.Spelling.{peer_spelling, wire_spelling, commands_spelling, HasSpelling}
 use Rattle.b1_gen.specs.Generated.{below, peer_count, peer_spec, opening_of, partners, handle_at, payload_len, payload_of, sending, taking, taken_before, phase_commands, commands_before, commands_of, generated}
 use Rattle.b1_gen.proofs.Rising.{filter-few}
-use Rattle.b1_gen.proofs.Each.{each-append, each-map, each-flat_map, each-range, each-below, flat_map-most}
+use Rattle.b1_gen.proofs.Each.{each-map, each-flat_map, each-range, each-below, flat_map-most}
 use Rattle.b1_gen.proofs.Opens.{is_opening, few_wires, squares}
 
 -- what holds of each command: a record can carry it, and its spelling is short

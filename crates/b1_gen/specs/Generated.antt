@@ -3,7 +3,6 @@ use Rattle.std.specs.Prelude.{ℕ, ◌+◌, ◌-◌, ◌*◌, ◌%◌, ◌==◌,
 use Rattle.std.specs.List.{flat_map, range_with_len}
 use Rattle.b1_model.specs.declared.commands.Command.{Command}
 use Rattle.b1_model.specs.declared.commands.Command.TheVariants.{Send, Await, SliceRelease}
-use Rattle.b1_model.specs.declared.naming.Limits.{Limits}
 use Rattle.b1_model.specs.declared.naming.Opening.{Opening}
 use Rattle.b1_model.specs.declared.naming.PeerSpec.{PeerSpec}
 use Rattle.b1_model.specs.declared.naming.Wire.{Wire}

@@ -1,5 +1,5 @@
-use Rattle.std.proofs.Common.{◌≡◌, ℕ, ◌+◌, ◌*◌, ◌≤◌, ◌++◌, length, arith, rules, sym, ap, ◌∙◌}
-use Rattle.b1_gen.specs.Generated.{commands_before, commands_of, partners, taken_before}
+use Rattle.std.proofs.Common.{◌≡◌, length, arith, rules, sym, ap, ◌∙◌}
+use Rattle.b1_gen.specs.Generated.{commands_before, commands_of, partners}
 use Rattle.b1_gen.proofs.Rising.{commands_before-none, commands_before-more, sum_by-below}
 use Rattle.b1_gen.proofs.commands.commands.Goals as goal
 

@@ -1,4 +1,4 @@
-use Rattle.std.proofs.Common.{◌≡◌, ◌++◌, ◌≤◌, ℕ, ◌+◌, ◌*◌, ◌-◌, List, [], ◌∷◌, arith, rules, sym, ap, ◌∙◌, subst, append_assoc}
+use Rattle.std.proofs.Common.{◌≡◌, ◌++◌, ◌+◌, ◌*◌, ◌-◌, List, [], ◌∷◌, arith, ap, ◌∙◌, subst, append_assoc}
 use Rattle.std.specs.List.{flat_map, range_with_len}
 use Rattle.b1_model.specs.declared.commands.Command.TheVariants.{Await, SliceRelease}
 use Rattle.b1_gen.specs.Generated.{taking}
