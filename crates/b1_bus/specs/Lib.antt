@@ -1,4 +1,5 @@
 pub mod Faces
+pub mod Crews
 pub use Rattle.b1_event.specs.Borne
 pub use Rattle.b1_model.specs.Legal
 pub use Rattle.b1_model.specs.MachineParts

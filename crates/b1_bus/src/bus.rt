@@ -1,4 +1,4 @@
-ghost use Rattle.std.specs.Prelude.{◌≡◌};
+ghost use Rattle.std.specs.Prelude.{◌≡◌, ◌<◌, length};
 
 use atomic_table::{Seat, Table};
 use b1_heap::IndexedHeap;
@@ -31,7 +31,7 @@ pub struct Bus {
 }
 
 impl Model for Bus {
-    ghost use Rattle.std.specs.Prelude.{◌≡◌, length};
+    ghost use Rattle.std.specs.Prelude.{◌≡◌, ◌<◌, length};
     ghost use Rattle.b1_rule.specs.Rule.{state_of};
     ghost use Rattle.b1_bus.specs.Faces.{BusFace};
 
@@ -47,5 +47,15 @@ impl Model for Bus {
       opening : b.table.shared.key.opening.value ≡ b.opening;
       words : b.table.shared.table_id.words ≡ length b.opening.peers;
       slots : b.table.shared.table_id.slots ≡ length b.opening.peers;
+      some : 0 < length b.opening.peers;
     } };
+}
+
+impl Bus {
+    /// What always holds of a bus: it has a peer. Does nothing.
+    pub(crate) fn facts(&self)
+        ensures { 0 < length self.now.opening.peers }
+    {
+        let _ = &self.opening;
+    }
 }

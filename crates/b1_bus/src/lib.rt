@@ -8,6 +8,7 @@ mod bus;
 mod closing;
 mod driver;
 mod making;
+mod taking;
 
 pub use bus::Bus;
 pub use closing::{Closed, close};

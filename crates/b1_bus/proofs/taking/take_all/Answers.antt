@@ -24,17 +24,17 @@ loop-slot-preserved g c =
       items = others.0 ∙ inv.items;
       count = others.2 ∙ inv.count;
       full = λ k low high.
-        ap (λ l. slice_index_or l k false) others.1 ∙ get_or-set_other (slots_filled old) at k false false (λ same. omega (arith, same, low))
-        ∙ inv.full k (omega (arith, low)) (omega (arith, high, others.2));
+          ap (λ l. slice_index_or l k false) others.1 ∙ get_or-set_other (slots_filled old) at k false false (λ same. omega (arith, same, low))
+          ∙ inv.full k (omega (arith, low)) (omega (arith, high, others.2));
       empty = λ k low. elim (cases_eq k at) [
         | inl same ↦ ap (λ l. slice_index_or l k false) others.1 ∙ ap (λ j. slice_index_or (slice_set (slots_filled old) at false) j false) same
             ∙ get_or-set_same (slots_filled old) at false false (omega (arith, within, old.ok.1))
         | inr apart ↦ ap (λ l. slice_index_or l k false) others.1 ∙ get_or-set_other (slots_filled old) at k false false apart ∙ inv.empty k (omega (arith, low, apart))
-        ];
+      ];
       taken =
-        let more : c.loop-slot.slot + 1 ≡ suc c.loop-slot.slot = omega arith in
-        c.push_reserved.ensures.items ∙ ap (λ l. l ++ c.take.result ∷ []) inv.taken
-        ∙ sym (next (slots_items old) at c.take.result c.take.ensures.value) ∙ ap (λ n. take n (slots_items old)) (sym more) ∙ ap (take (at + 1)) (sym others.0);
+          let more : c.loop-slot.slot + 1 ≡ suc c.loop-slot.slot = omega arith in
+          c.push_reserved.ensures.items ∙ ap (λ l. l ++ c.take.result ∷ []) inv.taken
+          ∙ sym (next (slots_items old) at c.take.result c.take.ensures.value) ∙ ap (λ n. take n (slots_items old)) (sym more) ∙ ap (take (at + 1)) (sym others.0);
       fits = omega (arith, c.push_reserved.ensures.len, c.push_reserved.ensures.capacity, others.2, inv.fits);
       so_many = omega (arith, c.push_reserved.ensures.len, inv.so_many);
     }
