@@ -1,5 +1,5 @@
-pub mod Faces
-pub mod Crews
+pub mod Seated
+pub use Rattle.b1_locks.specs.Faces
 pub use Rattle.b1_event.specs.Borne
 pub use Rattle.b1_model.specs.Legal
 pub use Rattle.b1_model.specs.MachineParts

@@ -3,10 +3,10 @@ ghost use Rattle.std.specs.List.{AllByRecursion};
 ghost use Rattle.b1_model.specs.Legal.{Legal};
 ghost use Rattle.b1_model.specs.MachineStep.{record_of_state, Reached};
 ghost use Rattle.b1_rule.specs.Rule.{held_by, holding, state_of, whole, LedTo};
-ghost use Rattle.b1_bus.specs.Faces.{crew, members, part_at, IsIdle, IsOf};
+ghost use Rattle.b1_locks.specs.Faces.{crew, members, part_at, IsIdle};
+ghost use Rattle.b1_bus.specs.Seated.{IsOn};
 
-use crate::bus::{Bus, Peer, Place};
-use crate::driver::Driver;
+use crate::kinds::{Board, Bus, Driver, Peer, Place};
 use crate::making::lay;
 use crate::taking::take_all;
 use b1_core::records;
@@ -30,7 +30,7 @@ pub struct Closed {
 
 impl Model for Closed {
     ghost use Rattle.std.specs.Prelude.{◌≡◌, ◌≤◌, [], length, vec_capacity};
-    ghost use Rattle.b1_bus.specs.Faces.{ClosedFace, IsClosed};
+    ghost use Rattle.b1_locks.specs.Faces.{ClosedFace, IsClosed};
 
     ghost Value = { ClosedFace };
 
@@ -78,10 +78,9 @@ fn close_in(
     ensures drivers { result.drivers ≡ map (λ d. d.own) drivers.items }
     ensures led { LedTo result.opening bus.first (state_of result.peers result.drivers) }
 {
-    bus.facts();
+    let (table, opening) = bus.into_parts();
     let mut states = states;
-    let seat = join_all(&bus, drivers, &mut states);
-    let Bus { table, opening } = bus;
+    let seat = join_all(&table, drivers, &mut states);
     let peers = take_all(table.close_with(seat), peers);
     Closed {
         opening,
@@ -92,52 +91,39 @@ fn close_in(
 }
 
 /// A seat takes a driver's part over from its seat. The driver's own state comes back.
-fn join_one(bus: &Bus, seat: &mut Place, driver: Driver) -> DriverState
-    requires table { seat.old.table_id ≡ bus.now.table }
-    requires rests { seat.old.me ≡ (whole bus.now.opening seat.old.me.0.parts, []) }
-    requires driver { driver.table ≡ bus.now.table }
+fn join_one(table: &Board, seat: &mut Place, driver: Driver) -> DriverState
+    requires table { seat.old.table_id ≡ table.now.shared.table_id }
+    requires some { 0 < seat.old.table_id.words }
+    requires rests { seat.old.me ≡ (whole seat.old.me.0.opening seat.old.me.0.parts, []) }
+    requires driver { driver.table ≡ table.now.shared.table_id }
     ensures table { seat.new.table_id ≡ seat.old.table_id }
-    ensures parts { seat.new.me ≡ (whole bus.now.opening (seat.old.me.0.parts ++ holding result ∷ []), []) }
+    ensures parts { seat.new.me ≡ (whole seat.old.me.0.opening (seat.old.me.0.parts
+        ++ holding result ∷ []), []) }
     ensures state { result ≡ driver.own }
     ensures idle { IsIdle result }
 {
-    let Driver {
-        seat: other,
-        state,
-        ..
-    } = driver;
-    bus.table.shared.join_seat::<Both>(seat, other);
+    let (other, state) = driver.into_parts();
+    table.shared.join_seat::<Both>(seat, other);
     state
 }
 
-/// The seat of the first driver, and its state.
-fn first_seat(bus: &Bus, driver: Driver) -> (Place, DriverState)
-    requires { IsOf driver bus.now }
-    ensures table { result.0.table_id ≡ bus.now.table }
-    ensures parts { result.0.me ≡ (whole bus.now.opening (holding result.1 ∷ []), []) }
-    ensures state { result.1 ≡ driver.own }
-    ensures idle { IsIdle result.1 }
-{
-    let Driver { seat, state, .. } = driver;
-    (seat, state)
-}
-
 /// One seat with all drivers' parts, in their order, and their states in a list that has room for them.
-fn join_all(bus: &Bus, mut drivers: Vec<Driver>, states: &mut Vec<DriverState>) -> Place
+fn join_all(table: &Board, mut drivers: Vec<Driver>, states: &mut Vec<DriverState>) -> Place
     requires some { 0 < length drivers.items }
-    requires on { AllByRecursion (λ d. IsOf d bus.now) drivers.items }
+    requires words { 0 < table.now.shared.table_id.words }
+    requires on { AllByRecursion (IsOn table.now.shared.table_id table.now.shared.key.opening.value) drivers.items }
     requires empty { states.old.items ≡ [] }
     requires room { length drivers.items ≤ vec_capacity states.old }
-    ensures table { result.table_id ≡ bus.now.table }
-    ensures parts { result.me ≡ (whole bus.now.opening (held_by states.new.items), []) }
+    ensures table { result.table_id ≡ table.now.shared.table_id }
+    ensures parts { result.me ≡ (whole table.now.shared.key.opening.value (held_by states.new.items), []) }
     ensures states { states.new.items ≡ map (λ d. d.own) drivers.items }
     ensures idle { AllByRecursion IsIdle states.new.items }
 {
-    let (mut seat, first) = first_seat(bus, drivers.remove(0));
+    let (mut seat, first) = drivers.remove(0).into_parts();
     states.push_reserved(first);
     while !drivers.is_empty() {
         let next = drivers.remove(0);
-        states.push_reserved(join_one(bus, &mut seat, next));
+        states.push_reserved(join_one(table, &mut seat, next));
     }
     seat
 }

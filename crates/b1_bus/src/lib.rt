@@ -4,13 +4,11 @@
 //! is to use it. `close` takes them all back, and gives the state that they have led to.
 #![tactic(auto)]
 
-mod bus;
 mod closing;
-mod driver;
+mod kinds;
 mod making;
 mod taking;
 
-pub use bus::Bus;
 pub use closing::{Closed, close};
-pub use driver::Driver;
+pub use kinds::{Bus, Driver};
 pub use making::make;

@@ -1,13 +1,12 @@
-ghost use Rattle.std.specs.Prelude.{◌≡◌, ◌+◌, ◌<◌, ◌≤◌, ◌++◌, ℕ, [], ◌∷◌, drop, length, map, replicate, vec_len, vec_capacity, IfOk, All};
+ghost use Rattle.std.specs.Prelude.{◌≡◌, ◌<◌, ◌≤◌, [], ◌∷◌, drop, length, map, replicate, vec_capacity, IfOk, All};
 ghost use Rattle.std.specs.List.{AllByRecursion};
 ghost use Rattle.b1_model.specs.Opening.{IsOpening};
 ghost use Rattle.b1_model.specs.MachineStep.{opening_state};
 ghost use Rattle.b1_rule.specs.Rule.{held_by, holding, state_of, whole};
-ghost use Rattle.b1_bus.specs.Faces.{crew, members, IsClosed};
-ghost use Rattle.b1_bus.specs.Crews.{of_bus, IsSeated};
+ghost use Rattle.b1_locks.specs.Faces.{crew, members, IsClosed};
+ghost use Rattle.b1_bus.specs.Seated.{seated, IsSeated};
 
-use crate::bus::{Begun, Board, Bus, Peer, Place};
-use crate::driver::Driver;
+use crate::kinds::{Board, Bus, Driver, Peer, Place};
 use atomic_table::Table;
 use b1_core::{copy_opening, make_drivers, make_peers};
 use b1_driver::DriverState;
@@ -46,10 +45,10 @@ pub(crate) fn lay(
     ensures members { IfOk result (λ made. members made.1.items ≡ crew made.0) }
     ensures drivers { IfOk result (λ made. map (λ d. d.own) made.1.items ≡ drivers.items) }
 {
-    let seated = Vec::with_capacity(alloc, drivers.len())?;
-    let (bus, seat) = open_board(alloc, opening, peers, &drivers)?;
-    let seated = seat_all(&bus, seat, drivers, seated);
-    Ok((bus, seated))
+    let room = Vec::with_capacity(alloc, drivers.len())?;
+    let (table, seat) = open_board(alloc, &opening, peers, &drivers)?;
+    let drivers = seat_all(&table, seat, drivers, room);
+    Ok((Bus::new(table, opening), drivers))
 }
 
 /// The words of so many free locks.
@@ -59,65 +58,69 @@ fn free_locks(alloc: Global, count: usize) -> Result<Vec<u64>, AllocError>
     Vec::from_elem(alloc, 0, count)
 }
 
-/// A bus with all locks free and all peers at home, and the one seat of its table, which has all drivers' parts.
+/// A table with all locks free and all peers at home, and its one seat, which has all drivers' parts.
 fn open_board(
     alloc: Global,
-    opening: Opening,
+    opening: &Opening,
     peers: Vec<Peer>,
     drivers: &Vec<DriverState>,
-) -> Result<(Bus, Place), AllocError>
-    requires { IsClosed opening peers.items drivers.now.items }
-    ensures opening { IfOk result (λ made. made.0.opening ≡ opening) }
-    ensures first { IfOk result (λ made. made.0.first ≡ state_of peers.items drivers.now.items) }
-    ensures table { IfOk result (λ made. made.1.table_id ≡ made.0.table) }
-    ensures seat { IfOk result (λ made. made.1.me ≡ (whole opening (held_by drivers.now.items), [])) }
+) -> Result<(Board, Place), AllocError>
+    requires { IsClosed opening.now peers.items drivers.now.items }
+    ensures opening { IfOk result (λ made. made.0.shared.key.opening.value ≡ opening.now) }
+    ensures peers { IfOk result (λ made. made.0.shared.key.peers.value.items ≡ peers.items) }
+    ensures drivers { IfOk result (λ made. made.0.shared.key.drivers.value.items
+        ≡ drivers.now.items) }
+    ensures words { IfOk result (λ made. made.0.shared.table_id.words ≡ length opening.now.peers) }
+    ensures slots { IfOk result (λ made. made.0.shared.table_id.slots ≡ length opening.now.peers) }
+    ensures table { IfOk result (λ made. made.1.table_id ≡ made.0.shared.table_id) }
+    ensures seat { IfOk result (λ made. made.1.me
+        ≡ (whole opening.now (held_by drivers.now.items), [])) }
 {
     let words = free_locks(alloc, peers.len())?;
     let begun = Start {
-        opening: Snapshot::of(&opening),
+        opening: Snapshot::of(opening),
         peers: Snapshot::of(&peers),
         drivers: Snapshot::of(drivers),
     };
-    let Ok((table, seat)) = Table::new(alloc, words.as_slice(), peers, &begun) else {
-        return Err(AllocError);
-    };
-    Ok((Bus { table, opening }, seat))
+    match Table::new(alloc, words.as_slice(), peers, &begun) {
+        Ok(made) => Ok(made),
+        Err(_) => Err(AllocError),
+    }
 }
 
-/// A driver with a seat of its own, to which the first part of another seat went.
-fn seat_one(bus: &Bus, seat: &mut Place, state: DriverState) -> Driver
-    requires table { seat.old.table_id ≡ bus.now.table }
-    requires parts { seat.old.me ≡ (whole bus.now.opening (holding state ∷ drop 1 seat.old.me.0.parts), []) }
-    requires seated { IsSeated bus.now.opening state }
+/// A driver with a seat of its own, to which the first part of another seat goes.
+fn seat_one(table: &Board, seat: &mut Place, state: DriverState) -> Driver
+    requires table { seat.old.table_id ≡ table.now.shared.table_id }
+    requires parts { seat.old.me ≡ (whole seat.old.me.0.opening (holding state
+        ∷ drop 1 seat.old.me.0.parts), []) }
+    requires seated { IsSeated seat.old.me.0.opening state }
+    requires words { seat.old.table_id.words ≡ length seat.old.me.0.opening.peers }
     ensures table { seat.new.table_id ≡ seat.old.table_id }
-    ensures parts { seat.new.me ≡ (whole bus.now.opening (drop 1 seat.old.me.0.parts), []) }
-    ensures driver { result ≡ of_bus bus.now state }
+    ensures parts { seat.new.me ≡ (whole seat.old.me.0.opening (drop 1 seat.old.me.0.parts), []) }
+    ensures driver { result ≡ seated seat.old.table_id seat.old.me.0.opening state }
 {
-    let own = bus.table.shared.split_seat::<First>(seat);
-    Driver {
-        seat: own,
-        state,
-        events: 0,
-    }
+    let own = table.shared.split_seat::<First>(seat);
+    Driver::new(own, state)
 }
 
 /// Each driver with a seat of its own, in a list that has room for them.
 fn seat_all(
-    bus: &Bus,
+    table: &Board,
     mut seat: Place,
-    mut drivers: Vec<DriverState>,
-    mut seated: Vec<Driver>,
+    mut states: Vec<DriverState>,
+    mut drivers: Vec<Driver>,
 ) -> Vec<Driver>
-    requires table { seat.table_id ≡ bus.now.table }
-    requires parts { seat.me ≡ (whole bus.now.opening (held_by drivers.items), []) }
-    requires seated { AllByRecursion (IsSeated bus.now.opening) drivers.items }
-    requires empty { seated.items ≡ [] }
-    requires room { length drivers.items ≤ vec_capacity seated }
-    ensures { result.items ≡ map (of_bus bus.now) drivers.items }
+    requires table { seat.table_id ≡ table.now.shared.table_id }
+    requires parts { seat.me ≡ (whole seat.me.0.opening (held_by states.items), []) }
+    requires words { seat.table_id.words ≡ length seat.me.0.opening.peers }
+    requires seated { AllByRecursion (IsSeated seat.me.0.opening) states.items }
+    requires empty { drivers.items ≡ [] }
+    requires room { length states.items ≤ vec_capacity drivers }
+    ensures { result.items ≡ map (seated seat.table_id seat.me.0.opening) states.items }
 {
-    while !drivers.is_empty() {
-        let state = drivers.remove(0);
-        seated.push_reserved(seat_one(bus, &mut seat, state));
+    while !states.is_empty() {
+        let state = states.remove(0);
+        drivers.push_reserved(seat_one(table, &mut seat, state));
     }
-    seated
+    drivers
 }

@@ -48,7 +48,7 @@ led_more {o} {first} {s} {t} {p} {command} led step = record { steps = led.steps
 -- ---- names
 
 names_none : (q : ℕ) (v : View) → v.named ≡ None → names_peer q v ≡ 0
-names_none q v none = ap (λ (f : Option Found). elim f as (λ z. ℕ) [ None ↦ 0 | Some f ↦ cond (f.peer == q) 1 0 ]) none
+names_none q v unnamed = ap (λ (f : Option Found). elim f as (λ z. ℕ) [ None ↦ 0 | Some f ↦ cond (f.peer == q) 1 0 ]) unnamed
 
 names_same : (o : Opening) (held : List Holding) (q : ℕ) (x : PeerPart) → names_peer q (naming o held q x) ≡ 1
 names_same o held q x = ap (λ b. cond {A = ℕ} b 1 0) (eq-eqb q q refl)
@@ -73,7 +73,7 @@ board ws hs vs = record { words = ws; homes = hs; views = vs }
 other_lock : (o : Opening) (s : State) (t : Table PeerSeen View) (j q r n : ℕ) (v w : View) (home : maybe.Option PeerSeen) (s' : State) → get_elem? t.views j ≡ some v → r ≢ q → names_peer r w ≡ names_peer r v
     → slice_get s'.peers r ≡ slice_get s.peers r → IsFree o s t r ⊎ IsTaken t r → IsFree o s' (board (set t.words q n) (set t.homes q home) (set t.views j w)) r ⊎ IsTaken (board (set t.words q n) (set t.homes q home) (set t.views j w)) r
 other_lock o s t j q r n v w home s' me apart names same (inl free) = inl (record {
-  word = get_or-set_other t.words q r n 0 (λ e. apart (sym e)) ∙ free.word;
+  word = get_or-set_other t.words q r n 0 apart ∙ free.word;
   unnamed = omega (arith, total-set (names_peer r) t.views j v w me, names, free.unnamed);
   seen = free.seen;
   home = set_else t.homes q r home apart ∙ free.home;
@@ -81,7 +81,7 @@ other_lock o s t j q r n v w home s' me apart names same (inl free) = inl (recor
   users = free.users;
 })
 other_lock o s t j q r n v w home s' me apart names same (inr taken) = inr (record {
-  word = get_or-set_other t.words q r n 0 (λ e. apart (sym e)) ∙ taken.word;
+  word = get_or-set_other t.words q r n 0 apart ∙ taken.word;
   named = omega (arith, total-set (names_peer r) t.views j v w me, names, taken.named);
   out = set_else t.homes q r home apart ∙ taken.out;
 })
@@ -207,7 +207,7 @@ module _ (o : Opening) (first : State) (slots id q : ℕ) (h : Holding) (x : Pee
   abbrev after : State
   after = record { peers = set k.state.peers q y.part; drivers = set k.state.drivers h.part.me e.part }
 
-  is_step : Step o k.state h.part.me changes.command after
+  abbrev is_step : Step o k.state h.part.me changes.command after
   is_step = record {
     driver = h.part;
     action = changes.action;

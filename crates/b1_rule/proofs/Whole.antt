@@ -149,7 +149,7 @@ module _ (o : Opening) (xs : List PeerSeen) (ds : List Driver) (ws : List ℕ) (
     wide = wide;
     deep = length-map xs some ∙ as_many_peers;
     view = knows_first;
-    driver = λ p within. let once = times_one ds 0 p (λ i d is. me_is i d is) (omega arith) (omega (arith, within, as_many_drivers)) in omega (arith, once);
+    driver = λ p within. let once = times_one ds 0 p (λ i d is. let n = me_is i d is in omega (arith, n)) (omega arith) (omega (arith, within, as_many_drivers)) in omega (arith, once);
     peer = λ q within. inl (free_at q within);
   }
 
@@ -179,7 +179,7 @@ module _ (o : Opening) (first : State) (id : ℕ) (ds : List Driver) (ys : List 
       let held = (k.view j v is).driver 0 h first in
       let within = slice_get_within k.state.drivers h.part.me h.part held.part in
       let as_many = (reached_numbered o k.state (reached_now k)).as_many_drivers in
-      let whole_has = times_one ds 0 h.part.me me_is (omega arith) (omega (arith, within, as_many, many)) in
+      let whole_has = times_one ds 0 h.part.me (λ i d is. let n = me_is i d is in omega (arith, n)) (omega arith) (omega (arith, within, as_many, many)) in
       let has = has_it v.parts 0 h first in
       let both = terms_le (λ (w : View). times h.part.me w.parts) t.views id j all v apart me is in
       let once = k.driver h.part.me (omega (arith, within, as_many)) in
@@ -204,8 +204,8 @@ module _ (o : Opening) (first : State) (id : ℕ) (ds : List Driver) (ys : List 
   as_many_ys : length ys ≡ length o.peers
   as_many_ys = sym deep ∙ k.deep
 
-  numbered : IsNumbered o k.state
-  numbered = reached_numbered o k.state (reached_now k)
+  numbered_now : IsNumbered o k.state
+  numbered_now = reached_numbered o k.state (reached_now k)
 
   peer_at : (q : ℕ) (y : PeerSeen) → slice_get ys q ≡ Some y → (slice_get k.state.peers q ≡ Some y.part) × HasUsers o y.users
   peer_at q y is =
@@ -217,11 +217,11 @@ module _ (o : Opening) (first : State) (id : ℕ) (ds : List Driver) (ys : List 
   driver_at p d is = (k.view id all me).driver p (holding d) (at_map holding ds p d is)
 
   same_peers : map (λ y. y.part) ys ≡ k.state.peers
-  same_peers = same_list (map (λ (y : PeerSeen). y.part) ys) k.state.peers (length-map ys (λ (y : PeerSeen). y.part) ∙ as_many_ys ∙ sym numbered.as_many_peers)
+  same_peers = same_list (map (λ (y : PeerSeen). y.part) ys) k.state.peers (length-map ys (λ (y : PeerSeen). y.part) ∙ as_many_ys ∙ sym numbered_now.as_many_peers)
       (λ q x is. let (y, at, part) = map_at (λ (z : PeerSeen). z.part) ys q x is in (peer_at q y at).0 ∙ ap (λ z. Some z) part)
 
   same_drivers : map (λ d. d.part) ds ≡ k.state.drivers
-  same_drivers = same_list (map (λ (d : Driver). d.part) ds) k.state.drivers (length-map ds (λ (d : Driver). d.part) ∙ many ∙ sym numbered.as_many_drivers)
+  same_drivers = same_list (map (λ (d : Driver). d.part) ds) k.state.drivers (length-map ds (λ (d : Driver). d.part) ∙ many ∙ sym numbered_now.as_many_drivers)
       (λ p x is. let (d, at, part) = map_at (λ (e : Driver). e.part) ds p x is in ap (slice_get k.state.drivers) (sym (me_is p d at)) ∙ (driver_at p d at).part ∙ ap (λ z. Some z) part)
 
   same_state : k.state ≡ state_of ys ds

@@ -1,9 +1,14 @@
 ghost use Rattle.std.specs.Prelude.{◌≡◌, ◌+◌, ◌<◌, ◌≤◌, length, max, OnOk, OnErr};
 ghost use Rattle.b1_event.specs.Borne.{call_limit};
+ghost use Rattle.b1_rule.specs.Rule.{holding};
+ghost use Rattle.b1_rule.specs.Plays.{resting};
+ghost use Rattle.b1_locks.specs.Faces.{IsIdle};
 
 use crate::bus::Place;
 use b1_driver::DriverState;
 use b1_model::Call;
+use b1_pool::PoolKind;
+use b1_queue::QueueKind;
 use std::alloc::AllocError;
 use std::marker::Model;
 
@@ -12,17 +17,17 @@ use std::marker::Model;
 /// Contracts see the table that it steps on, how its bus was opened, and what it has of its own: its part of the state,
 /// and beside it `spare`, how many more calls fit in its list. The calls and `spare` together are below 2^25.
 #[derive(Drop)]
-pub struct Driver {
-    pub(crate) seat: Place,
+pub struct Driver<Q: QueueKind, P: PoolKind> {
+    pub(crate) seat: Place<Q, P>,
     pub(crate) state: DriverState,
     pub(crate) events: u32,
 }
 
-impl Model for Driver {
+impl<Q: QueueKind, P: PoolKind> Model for Driver<Q, P> {
     ghost use Rattle.std.specs.Prelude.{◌≡◌, ◌<◌, length};
     ghost use Rattle.b1_rule.specs.Rule.{holding};
     ghost use Rattle.b1_rule.specs.Plays.{resting};
-    ghost use Rattle.b1_bus.specs.Faces.{DriverFace, IsIdle};
+    ghost use Rattle.b1_locks.specs.Faces.{DriverFace, IsIdle};
 
     ghost Value = { DriverFace };
 
@@ -36,17 +41,47 @@ impl Model for Driver {
     } };
 }
 
-impl Driver {
+impl<Q: QueueKind, P: PoolKind> Driver<Q, P> {
+    /// A driver that has no command open, with the seat that has its part.
+    pub fn new(seat: Place<Q, P>, state: DriverState) -> Driver<Q, P>
+        requires rests { seat.me ≡ resting seat.me.0.opening (holding state) }
+        requires idle { IsIdle state }
+        requires known { state.part.me < length seat.me.0.opening.peers }
+        requires words { seat.table_id.words ≡ length seat.me.0.opening.peers }
+        ensures { result ≡ record {
+          table = seat.table_id;
+          opening = seat.me.0.opening;
+          own = state;
+        } }
+    {
+        Driver {
+            seat,
+            state,
+            events: 0,
+        }
+    }
+
+    /// The seat of a driver, which has its part, and what else is its own.
+    pub fn into_parts(self) -> (Place<Q, P>, DriverState)
+        ensures seat { result.0.me ≡ resting self.opening (holding self.own) }
+        ensures table { result.0.table_id ≡ self.table }
+        ensures state { result.1 ≡ self.own }
+        ensures idle { IsIdle self.own }
+        ensures known { self.own.part.me < length self.opening.peers }
+    {
+        let Driver { seat, state, .. } = self;
+        (seat, state)
+    }
+
     /// Makes room for at least `n` calls in all that fit with no memory. An error is want of memory, and leaves all as it
     /// was.
     pub fn reserve(&mut self, n: usize) -> Result<(), AllocError>
         requires few { length self.old.own.part.calls + n < call_limit }
-        ensures enough { OnOk result (n ≤ self.new.own.spare) }
-        ensures same { self.new ≡ record self.old {
+        ensures ok { OnOk result (self.new ≡ record self.old {
           own = record self.old.own {
-            spare = self.new.own.spare;
+            spare = max self.old.own.spare n;
           };
-        } }
+        }) }
         ensures few { length self.new.own.part.calls + self.new.own.spare < call_limit }
         ensures err { OnErr result (self.new ≡ self.old) }
     {
