@@ -97,8 +97,11 @@ fn join_one(table: &Board, seat: &mut Place, driver: Driver) -> DriverState
     requires rests { seat.old.me ≡ (whole seat.old.me.0.opening seat.old.me.0.parts, []) }
     requires driver { driver.table ≡ table.now.shared.table_id }
     ensures table { seat.new.table_id ≡ seat.old.table_id }
-    ensures parts { seat.new.me ≡ (whole seat.old.me.0.opening (seat.old.me.0.parts
-        ++ holding result ∷ []), []) }
+    ensures parts { seat.new.me ≡ (
+      whole seat.old.me.0.opening (seat.old.me.0.parts
+          ++ holding result ∷ []),
+      [],
+    ) }
     ensures state { result ≡ driver.own }
     ensures idle { IsIdle result }
 {

@@ -91,8 +91,11 @@ fn open_board(
 /// A driver with a seat of its own, to which the first part of another seat goes.
 fn seat_one(table: &Board, seat: &mut Place, state: DriverState) -> Driver
     requires table { seat.old.table_id ≡ table.now.shared.table_id }
-    requires parts { seat.old.me ≡ (whole seat.old.me.0.opening (holding state
-        ∷ drop 1 seat.old.me.0.parts), []) }
+    requires parts { seat.old.me ≡ (
+      whole seat.old.me.0.opening (holding state
+          ∷ drop 1 seat.old.me.0.parts),
+      [],
+    ) }
     requires seated { IsSeated seat.old.me.0.opening state }
     requires words { seat.old.table_id.words ≡ length seat.old.me.0.opening.peers }
     ensures table { seat.new.table_id ≡ seat.old.table_id }
