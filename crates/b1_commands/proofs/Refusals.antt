@@ -82,15 +82,7 @@ module _ (s : SendCmd) where
   unknown n = right send (reason.Unknown n) refl refl refl
 
   pub send_right : (x : PeerPart) (c : SendCmd) → IfRight send (send_refusal x c)
-  send_right x c = first_right send (send_reasons x c) (
-    then_right send _ reason.Invalid (right send reason.Invalid refl refl refl),
-    then_right send _ (reason.Size (length c.payload)) (right send (reason.Size (length c.payload)) refl refl refl),
-    then_right send _ (reason.Overflow x.clock) (right send (reason.Overflow x.clock) refl refl refl),
-    found_right send (find (is_unknown x) c.to) unknown,
-    found_right send (find (is_unknown x) (filter is_given c.with)) unknown,
-    first_right send (map (dead_reason x) c.with) (all_dead x c.with),
-    tt,
-  )
+  send_right x c = first_right send (send_reasons x c) (then_right send _ reason.Invalid (right send reason.Invalid refl refl refl), (then_right send _ (reason.Size (length c.payload)) (right send (reason.Size (length c.payload)) refl refl refl), (then_right send _ (reason.Overflow x.clock) (right send (reason.Overflow x.clock) refl refl refl), (found_right send (find (is_unknown x) c.to) unknown, (found_right send (find (is_unknown x) (filter is_given c.with)) unknown, (first_right send (map (dead_reason x) c.with) (all_dead x c.with), tt))))))
 
   quota_right : (x : PeerPart) (user payload handles : ℕ) (what : Quantity) → IfRight send (over_quota x user payload handles what)
   quota_right x user payload handles what =
@@ -102,15 +94,7 @@ module _ (s : SendCmd) where
       by false own others limit asked = right send (reason.Quota what own others limit asked) refl refl refl
 
   pub stage_right : (x : PeerPart) (user serial payload handles : ℕ) → IfRight send (stage_refusal x user serial payload handles)
-  stage_right x user serial payload handles = first_right send (stage_reasons x user serial payload handles) (
-    then_right send _ (reason.Gone x.me serial) (right send (reason.Gone x.me serial) refl refl refl),
-    then_right send _ (reason.Overflow x.clock) (right send (reason.Overflow x.clock) refl refl refl),
-    quota_right x user payload handles Entries,
-    quota_right x user payload handles Bytes,
-    quota_right x user payload handles Handles,
-    then_right send _ (reason.Full (slice_len payload handles) (largest_free x.slices)) (right send (reason.Full (slice_len payload handles) (largest_free x.slices)) refl refl refl),
-    tt,
-  )
+  stage_right x user serial payload handles = first_right send (stage_reasons x user serial payload handles) (then_right send _ (reason.Gone x.me serial) (right send (reason.Gone x.me serial) refl refl refl), (then_right send _ (reason.Overflow x.clock) (right send (reason.Overflow x.clock) refl refl refl), (quota_right x user payload handles Entries, (quota_right x user payload handles Bytes, (quota_right x user payload handles Handles, (then_right send _ (reason.Full (slice_len payload handles) (largest_free x.slices)) (right send (reason.Full (slice_len payload handles) (largest_free x.slices)) refl refl refl), tt))))))
 
   pub memory_right : IsRight send reason.Memory
   memory_right = right send reason.Memory refl refl refl
@@ -123,12 +107,7 @@ overflow_right c x may = then_right c _ (reason.Overflow x.clock) (right c (reas
 pub destroy_right : (numbers : List ℕ) (x : PeerPart) (others : List ℕ) → IfRight (cmd.Destroy numbers) (destroy_refusal x others)
 destroy_right numbers x others =
     let c : Command = cmd.Destroy numbers in
-    first_right c (then_some (is_bad_destroy others) reason.Invalid ∷ overflow_reason x ∷ option_map (λ number. reason.Unknown number) (find (is_not_live x) others) ∷ []) (
-      then_right c _ reason.Invalid (right c reason.Invalid refl refl refl),
-      overflow_right c x refl,
-      found_right c (find (is_not_live x) others) (λ n. right c (reason.Unknown n) refl refl refl),
-      tt,
-    )
+    first_right c (then_some (is_bad_destroy others) reason.Invalid ∷ overflow_reason x ∷ option_map (λ number. reason.Unknown number) (find (is_not_live x) others) ∷ []) (then_right c _ reason.Invalid (right c reason.Invalid refl refl refl), (overflow_right c x refl, (found_right c (find (is_not_live x) others) (λ n. right c (reason.Unknown n) refl refl refl), tt)))
 
 -- ---- HANDLE_RELEASE
 

@@ -28,12 +28,12 @@ use Rattle.b1_model.specs.declared.events.Phase.TheVariants.{Starting, Staging, 
 use Rattle.b1_model.specs.declared.events.Sending.{Sending}
 use Rattle.b1_model.specs.MachineParts.{PeerPart, DriverPart}
 use Rattle.b1_model.specs.MachinePool.{is_received}
-use Rattle.b1_model.specs.MachineSend.{send_refusal, stage_refusal}
-use Rattle.b1_model.specs.MachineReceive.{received, released}
-use Rattle.b1_model.specs.MachineDestroy.{destroy_refusal, overflow_reason}
+use Rattle.b1_model.specs.MachineSend.{send_refusal, stage_refusal, is_committed}
+use Rattle.b1_model.specs.MachineReceive.{received, received_part, has_dead, released}
+use Rattle.b1_model.specs.MachineDestroy.{destroy_refusal, overflow_reason, flushed}
 use Rattle.b1_model.specs.MachineDriver.{send_of, is_place, accepted_from, memory_place, is_memory, refused_at, all_refused, attaching, all_staged, staging, unstaging, with_slot, syncing, visiting, with_visit, syncing_notices, committing_notices, is_flushing, destroying, recv_answer, started, place_done, first_action, phase_action, next_action, Turn, Goes, Ends, turn, node_of_place}
 use Rattle.b1_model.specs.MachineTook.{is_disconnect, is_await, is_again, is_waiting, attempt_of, with_facts, answer_of, is_done, stamped_answer, sent_answer}
-use Rattle.b1_model.specs.MachineEvents.{happens, begin_by, stage_by, destroy_by, begin_refusal, begin_serials, local_answer, number_of, begun_of, user_of}
+use Rattle.b1_model.specs.MachineEvents.{happens, begin_by, stage_by, destroy_by, begin_refusal, begin_serials, local_answer, number_of, begun_of, user_of, limits_after}
 use Rattle.b1_inv_tools.proofs.Facts.{next_of, next_owed}
 use Rattle.b1_commands.specs.Done.{may_refuse, is_send, RefusesRight, is_shut_reason, is_shutdown, leaves}
 use Rattle.b1_commands.proofs.Refusals.{IsRight, IfRight, send_right, stage_right, memory_right, overflow_right, destroy_right, released_right}
@@ -334,7 +334,7 @@ module _ (o : Opening) (memory : Bool) (d e : DriverPart) (x : PeerPart) where
       first_under (cmd.SliceRelease offset) = local_right (cmd.SliceRelease offset) (slice_right offset (is_received offset x.slices))
       first_under (cmd.Send s) = begin_under s (send_refusal x s) memory s (send_right s x s)
       first_under cmd.Recv = recv_under (received x).front
-      first_under cmd.Await = await_under (received x).front (received x).removed _
+      first_under cmd.Await = await_under (received x).front (received x).removed (has_dead (received_part x))
 
     starts : (c : Command) (b : Bool) → e.shut ≡ b → After c Starting (outcome c Starting (cond b act.Local (first_action c)))
     starts c true is = subst (λ b. EndsRight d c (local_answer b c x) (shown e)) (sym is) (shut_right c is)
@@ -350,7 +350,7 @@ module _ (o : Opening) (memory : Bool) (d e : DriverPart) (x : PeerPart) where
   by_phase c (Attaching sending place slot) (here, s, is) = subst (λ z. After z (Attaching sending place slot) (outcome z (Attaching sending place slot) (phase_action e.me e.shut z (Attaching sending place slot)))) (sym is) (attaching_under d s (shown e) here _ place (slot + 1))
   by_phase c (Stamping sending) (here, s, is) = subst (λ z. After z (Stamping sending) (outcome z (Stamping sending) act.Stamp)) (sym is) (syncing_under d s (shown e) here sending _ (accepted_from 0 sending.places))
   by_phase c (Syncing sending stamp place) (here, s, is) = subst (λ z. After z (Syncing sending stamp place) out.Sync) (sym is) (syncing_under d s (shown e) here sending stamp (accepted_from (place + 1) sending.places))
-  by_phase c (Committing sending stamp place) (here, s, is) = subst (λ z. After z (Committing sending stamp place) (outcome z (Committing sending stamp place) (phase_action e.me e.shut z (Committing sending stamp place)))) (sym is) (committed_found s sending stamp place _ here)
+  by_phase c (Committing sending stamp place) (here, s, is) = subst (λ z. After z (Committing sending stamp place) (outcome z (Committing sending stamp place) (phase_action e.me e.shut z (Committing sending stamp place)))) (sym is) (committed_found s sending stamp place (is_committed x e.me place) here)
   by_phase c Dropping k = k
   by_phase c (Reaping got) k = k
   by_phase c (Visiting destruction left) k = visiting_under d c (shown e) k _ _
@@ -358,7 +358,7 @@ module _ (o : Opening) (memory : Bool) (d e : DriverPart) (x : PeerPart) where
   by_phase c (SyncingNotices destruction stamp at) k = notices_under d c (shown e) k destruction stamp (at + 1)
   by_phase c (CommittingOwn destruction stamp) k = committed_under d c (shown e) k destruction stamp 0
   by_phase c (CommittingNotices destruction stamp at) k = committed_under d c (shown e) k destruction stamp (at + 1)
-  by_phase c (Flushing stamp) k = flushed_under c stamp _ k
+  by_phase c (Flushing stamp) k = flushed_under c stamp (has_dead (flushed x (limits_after c x.limits))) k
 
   -- whichever event is next, it leaves the command in a phase that is right, or at an end that is right
   pub event_under : (c : Command) (phase : Phase) → e.doing ≡ Some (record { command = c; phase = phase }) → Under d c (shown e) phase → After c phase (outcome c phase (next_action e))

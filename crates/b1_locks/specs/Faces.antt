@@ -4,11 +4,11 @@ use Rattle.atomic_table.specs.Seated.{TableId}
 use Rattle.b1_model.specs.declared.naming.Opening.{Opening}
 use Rattle.b1_model.specs.declared.naming.PeerSpec.{PeerSpec}
 use Rattle.b1_model.specs.Opening.{IsOpening}
-use Rattle.b1_model.specs.MachineParts.{PeerPart, State}
+use Rattle.b1_model.specs.MachineParts.{PeerPart, DriverPart, State}
 use Rattle.b1_model.specs.MachineStep.{Reached, no_peer}
 use Rattle.b1_peer.specs.Seen.{PeerSeen}
 use Rattle.b1_driver.specs.Parts.{Driver}
-use Rattle.b1_event.specs.Borne.{call_limit}
+use Rattle.b1_event.specs.Borne.{AreShort, call_limit}
 use Rattle.b1_event.specs.Events.{HasUsers}
 use Rattle.b1_rule.specs.Rule.{state_of}
 
@@ -67,6 +67,14 @@ pub record IsIdle (d : Driver) : Type 0 where
   pub closed : d.part.doing ≡ None
   pub few : length d.part.calls + d.spare < call_limit
   pub here : d.doomed ≤ d.here
+
+-- a driver's part stands in some reached state whose drivers' lists are short
+pub record StandsIn (o : Opening) (d : DriverPart) : Type 0 where
+  pub state : State
+  pub opening : IsOpening o
+  pub reached : Reached o state
+  pub short : AreShort state
+  pub driver : slice_get state.drivers d.me ≡ Some d
 
 -- the peers and drivers of a closed bus: their state is reached, all drivers are between two commands, each has room for all nodes of its peer, and each peer knows who may send
 pub record IsClosed (o : Opening) (xs : List PeerSeen) (ds : List Driver) : Type 0 where

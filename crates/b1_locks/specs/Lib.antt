@@ -1,4 +1,5 @@
 pub mod Faces
+pub mod Locks
 pub use Rattle.b1_event.specs.Borne
 pub use Rattle.b1_model.specs.MachineParts
 pub use Rattle.b1_model.specs.MachineStep

@@ -76,4 +76,12 @@ impl<Q: QueueKind, P: PoolKind> Bus<Q, P> {
         let Bus { table, opening } = self;
         (table, opening)
     }
+
+    /// What is always so: there is a word and a slot for each peer. Does nothing.
+    pub(crate) fn shape(&self)
+        ensures words { self.now.table.words ≡ length self.now.opening.peers }
+        ensures slots { self.now.table.slots ≡ length self.now.opening.peers }
+    {
+        let _ = &self.opening;
+    }
 }

@@ -2,7 +2,7 @@ ghost use Rattle.std.specs.Prelude.{◌≡◌, ◌+◌, ◌<◌, ◌≤◌, leng
 ghost use Rattle.b1_event.specs.Borne.{call_limit};
 ghost use Rattle.b1_rule.specs.Rule.{holding};
 ghost use Rattle.b1_rule.specs.Plays.{resting};
-ghost use Rattle.b1_locks.specs.Faces.{IsIdle};
+ghost use Rattle.b1_locks.specs.Faces.{IsIdle, StandsIn};
 
 use crate::bus::Place;
 use b1_driver::DriverState;
@@ -12,32 +12,39 @@ use b1_queue::QueueKind;
 use std::alloc::AllocError;
 use std::marker::Model;
 
+/// What a driver works with: its seat, its state, and how many events it has done.
+#[derive(Drop)]
+pub(crate) struct Hand<Q: QueueKind, P: PoolKind> {
+    pub(crate) seat: Place<Q, P>,
+    pub(crate) state: DriverState,
+    pub(crate) events: u32,
+}
+
 /// The driver of one peer of a bus on threads. Between two of its commands it holds no lock.
 ///
 /// Contracts see the table that it steps on, how its bus was opened, and what it has of its own: its part of the state,
 /// and beside it `spare`, how many more calls fit in its list. The calls and `spare` together are below 2^25.
 #[derive(Drop)]
 pub struct Driver<Q: QueueKind, P: PoolKind> {
-    pub(crate) seat: Place<Q, P>,
-    pub(crate) state: DriverState,
-    pub(crate) events: u32,
+    pub(crate) hand: Hand<Q, P>,
 }
 
 impl<Q: QueueKind, P: PoolKind> Model for Driver<Q, P> {
     ghost use Rattle.std.specs.Prelude.{◌≡◌, ◌<◌, length};
     ghost use Rattle.b1_rule.specs.Rule.{holding};
     ghost use Rattle.b1_rule.specs.Plays.{resting};
-    ghost use Rattle.b1_locks.specs.Faces.{DriverFace, IsIdle};
+    ghost use Rattle.b1_locks.specs.Faces.{DriverFace, IsIdle, StandsIn};
 
     ghost Value = { DriverFace };
 
-    ghost view = { λ d. record { table = d.seat.table_id; opening = d.seat.me.0.opening; own = d.state } };
+    ghost view = { λ d. record { table = d.hand.seat.table_id; opening = d.hand.seat.me.0.opening; own = d.hand.state } };
 
     ghost invariant = { λ d. record {
-      rests : d.seat.me ≡ resting d.seat.me.0.opening (holding d.state);
-      idle : IsIdle d.state;
-      known : d.state.part.me < length d.seat.me.0.opening.peers;
-      words : d.seat.table_id.words ≡ length d.seat.me.0.opening.peers;
+      rests : d.hand.seat.me ≡ resting d.hand.seat.me.0.opening (holding d.hand.state);
+      idle : IsIdle d.hand.state;
+      stands : StandsIn d.hand.seat.me.0.opening d.hand.state.part;
+      known : d.hand.state.part.me < length d.hand.seat.me.0.opening.peers;
+      words : d.hand.seat.table_id.words ≡ length d.hand.seat.me.0.opening.peers;
     } };
 }
 
@@ -46,6 +53,7 @@ impl<Q: QueueKind, P: PoolKind> Driver<Q, P> {
     pub fn new(seat: Place<Q, P>, state: DriverState) -> Driver<Q, P>
         requires rests { seat.me ≡ resting seat.me.0.opening (holding state) }
         requires idle { IsIdle state }
+        requires stands { StandsIn seat.me.0.opening state.part }
         requires known { state.part.me < length seat.me.0.opening.peers }
         requires words { seat.table_id.words ≡ length seat.me.0.opening.peers }
         ensures { result ≡ record {
@@ -55,9 +63,11 @@ impl<Q: QueueKind, P: PoolKind> Driver<Q, P> {
         } }
     {
         Driver {
-            seat,
-            state,
-            events: 0,
+            hand: Hand {
+                seat,
+                state,
+                events: 0,
+            },
         }
     }
 
@@ -67,9 +77,11 @@ impl<Q: QueueKind, P: PoolKind> Driver<Q, P> {
         ensures table { result.0.table_id ≡ self.table }
         ensures state { result.1 ≡ self.own }
         ensures idle { IsIdle self.own }
+        ensures stands { StandsIn self.opening self.own.part }
         ensures known { self.own.part.me < length self.opening.peers }
     {
-        let Driver { seat, state, .. } = self;
+        let Driver { hand } = self;
+        let Hand { seat, state, .. } = hand;
         (seat, state)
     }
 
@@ -85,27 +97,27 @@ impl<Q: QueueKind, P: PoolKind> Driver<Q, P> {
         ensures few { length self.new.own.part.calls + self.new.own.spare < call_limit }
         ensures err { OnErr result (self.new ≡ self.old) }
     {
-        self.state.reserve(n)
+        self.hand.state.reserve(n)
     }
 
     /// How many more calls fit with no memory.
     pub fn spare(&self) -> usize
         ensures { result ≡ self.now.own.spare }
     {
-        self.state.spare()
+        self.hand.state.spare()
     }
 
     /// The calls that this driver has done, in their order.
     pub fn calls(&self) -> &[Call]
         ensures { result.now ≡ self.now.own.part.calls }
     {
-        self.state.calls()
+        self.hand.state.calls()
     }
 
     /// Whether the peer has disconnected.
     pub fn is_shut(&self) -> bool
         ensures { result ≡ self.now.own.part.shut }
     {
-        self.state.is_shut()
+        self.hand.state.is_shut()
     }
 }

@@ -7,6 +7,8 @@
 
 mod bus;
 mod driver;
+mod event;
+mod locks;
 
 pub use bus::{Board, Bus, Place};
 pub use driver::Driver;
