@@ -1,3 +1,4 @@
+pub mod Seated
 pub use Rattle.b1_locks.specs.Faces
 pub use Rattle.b1_event.specs.Borne
 pub use Rattle.b1_model.specs.Legal

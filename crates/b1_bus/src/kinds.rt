@@ -10,3 +10,9 @@ pub type Bus = b1_locks::Bus<IndexedHeap, SizedPool>;
 
 /// A driver of it.
 pub type Driver = b1_locks::Driver<IndexedHeap, SizedPool>;
+
+/// The bus's table of locks.
+pub(crate) type Board = b1_locks::Board<IndexedHeap, SizedPool>;
+
+/// A seat of that table.
+pub(crate) type Place = b1_locks::Place<IndexedHeap, SizedPool>;

@@ -7,6 +7,7 @@
 mod closing;
 mod kinds;
 mod making;
+mod taking;
 
 pub use closing::{Closed, close};
 pub use kinds::{Bus, Driver};

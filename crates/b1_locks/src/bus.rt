@@ -1,4 +1,4 @@
-ghost use Rattle.std.specs.Prelude.{◌≡◌, length};
+ghost use Rattle.std.specs.Prelude.{◌≡◌, ◌<◌, length};
 ghost use Rattle.b1_rule.specs.Rule.{state_of};
 
 use atomic_table::{Seat, Table};
@@ -26,7 +26,7 @@ pub struct Bus<Q: QueueKind, P: PoolKind> {
 }
 
 impl<Q: QueueKind, P: PoolKind> Model for Bus<Q, P> {
-    ghost use Rattle.std.specs.Prelude.{◌≡◌, length};
+    ghost use Rattle.std.specs.Prelude.{◌≡◌, ◌<◌, length};
     ghost use Rattle.b1_rule.specs.Rule.{state_of};
     ghost use Rattle.b1_locks.specs.Faces.{BusFace};
 
@@ -42,6 +42,7 @@ impl<Q: QueueKind, P: PoolKind> Model for Bus<Q, P> {
       opening : b.table.shared.key.opening.value ≡ b.opening;
       words : b.table.shared.table_id.words ≡ length b.opening.peers;
       slots : b.table.shared.table_id.slots ≡ length b.opening.peers;
+      some : 0 < length b.opening.peers;
     } };
 }
 
@@ -51,6 +52,7 @@ impl<Q: QueueKind, P: PoolKind> Bus<Q, P> {
         requires opening { table.shared.key.opening.value ≡ opening }
         requires words { table.shared.table_id.words ≡ length opening.peers }
         requires slots { table.shared.table_id.slots ≡ length opening.peers }
+        requires some { 0 < length opening.peers }
         ensures { result ≡ record {
           table = table.shared.table_id;
           opening = opening;
@@ -69,6 +71,7 @@ impl<Q: QueueKind, P: PoolKind> Bus<Q, P> {
             ≡ state_of result.0.shared.key.peers.value.items result.0.shared.key.drivers.value.items }
         ensures words { self.table.words ≡ length self.opening.peers }
         ensures slots { self.table.slots ≡ length self.opening.peers }
+        ensures some { 0 < length self.opening.peers }
     {
         let Bus { table, opening } = self;
         (table, opening)
