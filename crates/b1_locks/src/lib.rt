@@ -8,6 +8,7 @@
 mod bus;
 mod driver;
 mod event;
+mod finish;
 mod locks;
 mod run;
 mod short;
