@@ -5,7 +5,9 @@
 //! and gives the lock back by one store, which is the event. It holds one lock at most.
 #![tactic(auto)]
 
+mod answers;
 mod bus;
+mod commands;
 mod driver;
 mod event;
 mod finish;
