@@ -14,14 +14,12 @@ use b1_pool::PoolKind;
 use b1_queue::QueueKind;
 use std::sync::Wait;
 
-/// Does a command whole: each of its events under the lock of the peer where it is. Where `short`, a SEND is refused at its
-/// begin for want of memory if nothing else refuses it.
+/// Does a command whole: each of its events under the lock of the peer where it is.
 pub fn run<Q: QueueKind, P: PoolKind, R: Wait, G: Gate>(
     rt: &R,
     bus: &Bus<Q, P>,
     gate: &G,
     command: Command,
-    short: bool,
     hand: &mut Hand<Q, P>,
 )
     requires table { hand.old.seat.table_id ≡ bus.now.table }
@@ -38,7 +36,7 @@ pub fn run<Q: QueueKind, P: PoolKind, R: Wait, G: Gate>(
         ≡ hand.old.state.spare + length hand.old.state.part.calls }
 {
     hand.state.begin(command);
-    event(rt, bus, gate, hand, short);
+    event(rt, bus, gate, hand, false);
     go_on(rt, bus, gate, hand);
 }
 
