@@ -17,12 +17,12 @@ use Rattle.b1_run.specs.Workers.{AllEnded, AllFollow, HaveEnded, IsSite}
 use Rattle.b1_run.specs.Standing.{IsEmptied}
 use Rattle.b1_run.specs.declared.running.Ran.{Ran}
 use Rattle.b1_run.specs.declared.running.Ran.TheVariants as ran
-use Rattle.b1_run.specs.declared.running.Round.{Round}
-use Rattle.b1_run.specs.declared.running.Round.TheVariants as round
-use Rattle.b1_run.specs.declared.running.Rounds.{Rounds}
-use Rattle.b1_run.specs.declared.running.Rounds.TheVariants as rounds
-use Rattle.b1_run.specs.declared.running.Pass.{Pass}
-use Rattle.b1_run.specs.declared.running.Pass.TheVariants as pass
+use Rattle.b1_run.specs.declared.running.RoundEnd.{RoundEnd}
+use Rattle.b1_run.specs.declared.running.RoundEnd.TheVariants as round
+use Rattle.b1_run.specs.declared.running.RoundsEnd.{RoundsEnd}
+use Rattle.b1_run.specs.declared.running.RoundsEnd.TheVariants as rounds
+use Rattle.b1_run.specs.declared.running.PassEnd.{PassEnd}
+use Rattle.b1_run.specs.declared.running.PassEnd.TheVariants as pass
 
 -- ---- what a run promises
 
@@ -75,17 +75,17 @@ pub record IsDrainedAt (s : Script) (c : ClosedFace) : Type 0 where
   pub empty : IsEmptied (state_in c)
 
 -- what a round came to
-abbrev pub RoundEnds : Script → Round → Type 0
-RoundEnds s (round.Again site) = IsSite s.opening s.commands site
-RoundEnds s (round.Ended site) = IsSite s.opening s.commands site × AllEnded s.commands site.workers.items
-RoundEnds s (round.Stuck closed waiting) = IsStuckAt s closed waiting.items
+abbrev pub ComesTo : Script → RoundEnd → Type 0
+ComesTo s (round.Again site) = IsSite s.opening s.commands site
+ComesTo s (round.Ended site) = IsSite s.opening s.commands site × AllEnded s.commands site.workers.items
+ComesTo s (round.Stuck closed waiting) = IsStuckAt s closed waiting.items
 
 -- what all rounds came to
-abbrev pub RoundsEnd : Script → Rounds → Type 0
-RoundsEnd s (rounds.Ended site) = IsSite s.opening s.commands site × AllEnded s.commands site.workers.items
-RoundsEnd s (rounds.Stuck closed waiting) = IsStuckAt s closed waiting.items
+abbrev pub AllCome : Script → RoundsEnd → Type 0
+AllCome s (rounds.Ended site) = IsSite s.opening s.commands site × AllEnded s.commands site.workers.items
+AllCome s (rounds.Stuck closed waiting) = IsStuckAt s closed waiting.items
 
 -- what a pass came to
-abbrev pub PassEnds : Script → Pass → Type 0
-PassEnds s (pass.Again site) = IsSite s.opening s.commands site × AllEnded s.commands site.workers.items
-PassEnds s (pass.Drained closed) = IsDrainedAt s closed
+abbrev pub PassesTo : Script → PassEnd → Type 0
+PassesTo s (pass.Again site) = IsSite s.opening s.commands site × AllEnded s.commands site.workers.items
+PassesTo s (pass.Drained closed) = IsDrainedAt s closed

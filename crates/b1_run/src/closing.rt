@@ -1,9 +1,9 @@
 ghost use Rattle.std.specs.Prelude.{◌≡◌, ◌<◌, ◌≤◌, true, length, IfOk, IfSome};
+ghost use Rattle.std.specs.Option.{option_copied};
 ghost use Rattle.b1_rule.specs.Rule.{state_of};
 ghost use Rattle.b1_model.specs.MachineOrder.{Stuck};
 ghost use Rattle.b1_schedule.specs.Schedule.{waiting_peers};
-ghost use Rattle.b1_run.specs.Standing.{StandsAt, IsEmptied};
-ghost use Rattle.b1_bus.specs.Seated.{driver_at};
+ghost use Rattle.b1_run.specs.Standing.{EmptyAt, IsEmptied, NextIs, QuietAt, StandsAt};
 
 use b1_bus::Closed;
 use b1_model::{Command, CommandLists};
@@ -20,18 +20,42 @@ enum Standing {
     Ready,
 }
 
+/// The command that peer p stands at; `None` where its commands are at their end.
+fn next_of<'a>(lists: &'a CommandLists, closed: &Closed, p: u32) -> Option<&'a Command>
+    requires { p < length closed.now.peers }
+    ensures { NextIs lists.now (state_of closed.now.peers closed.now.drivers) p (option_copied result) }
+{
+    closed.facts();
+    let list = lists.get(p as usize)?;
+    list.get(closed.calls(p).len())
+}
+
+/// Whether peer p has disconnected, or its queue is empty.
+fn is_quiet(closed: &Closed, p: u32) -> bool
+    requires { p < length closed.now.peers }
+    ensures { result ≡ true → QuietAt (state_of closed.now.peers closed.now.drivers) p }
+{
+    closed.facts();
+    closed.is_shut(p) || closed.is_empty(p)
+}
+
+/// Whether peer p hasn't disconnected, and its queue is empty.
+fn is_open_and_empty(closed: &Closed, p: u32) -> bool
+    requires { p < length closed.now.peers }
+    ensures { result ≡ true → EmptyAt (state_of closed.now.peers closed.now.drivers) p }
+{
+    closed.facts();
+    !closed.is_shut(p) && closed.is_empty(p)
+}
+
 /// Where peer p stands.
-fn standing(lists: &CommandLists, closed: &Closed, p: u32) -> Standing
+fn standing_of(lists: &CommandLists, closed: &Closed, p: u32) -> Standing
     requires { p < length closed.now.peers }
     ensures { StandsAt lists.now (state_of closed.now.peers closed.now.drivers) p result }
 {
-    closed.facts();
-    let Some(list) = lists.get(p as usize) else {
-        return Standing::Ended;
-    };
-    match list.get(closed.calls(p).len()) {
+    match next_of(lists, closed, p) {
         None => Standing::Ended,
-        Some(Command::Await) if !closed.is_shut(p) && closed.is_empty(p) => Standing::Waiting,
+        Some(Command::Await) if is_open_and_empty(closed, p) => Standing::Waiting,
         Some(_) => Standing::Ready,
     }
 }
@@ -50,7 +74,7 @@ pub fn stuck_peers(
     closed.facts();
     let mut waiting = Vec::new(alloc);
     for p in 0..closed.count() {
-        match standing(lists, closed, p) {
+        match standing_of(lists, closed, p) {
             Standing::Ended => {}
             Standing::Waiting => waiting.push(p)?,
             Standing::Ready => return Ok(None),
@@ -68,7 +92,7 @@ pub fn is_drained(closed: &Closed) -> bool
 {
     closed.facts();
     for p in 0..closed.count() {
-        if !closed.is_shut(p) && !closed.is_empty(p) {
+        if !is_quiet(closed, p) {
             return false;
         }
     }

@@ -79,7 +79,10 @@ pub fn pass<R: Threads + Wait + Sync, G: Gate + Sync>(
     ensures ended { AllEnded lists.now workers.new }
 {
     let threads = workers.len().max(1);
-    thread::for_each_mut(rt, workers, threads, &|p, worker| {
-        drain_at(rt, bus, gate, lists, p, worker)
-    });
+    thread::for_each_mut(
+        rt,
+        workers,
+        threads,
+        &|p, worker| { drain_at(rt, bus, gate, lists, p, worker) },
+    );
 }

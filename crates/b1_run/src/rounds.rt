@@ -42,9 +42,12 @@ pub fn round<R: Threads + Wait + Sync, G: Gate + Sync>(
     ensures { AreAt bus.now lists.now workers.new }
 {
     let threads = workers.len().max(1);
-    thread::for_each_mut(rt, workers, threads, &|p, worker| {
-        work_at(rt, alloc, bus, gate, lists, p, worker)
-    });
+    thread::for_each_mut(
+        rt,
+        workers,
+        threads,
+        &|p, worker| { work_at(rt, alloc, bus, gate, lists, p, worker) },
+    );
 }
 
 /// Whether some driver gained in its last round or pass.

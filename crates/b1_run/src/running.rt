@@ -1,7 +1,7 @@
 ghost use Rattle.std.specs.Prelude.{IfOk};
 ghost use Rattle.b1_model.specs.Opening.{IsOpening};
 ghost use Rattle.b1_run.specs.Workers.{AllEnded, IsSite};
-ghost use Rattle.b1_run.specs.Runs.{IsDone, IsDrainedAt, IsStuckAt, PassEnds, RoundEnds, RoundsEnd, RunsAsPromised};
+ghost use Rattle.b1_run.specs.Runs.{IsDone, IsDrainedAt, IsStuckAt, PassesTo, ComesTo, AllCome, RunsAsPromised};
 
 use crate::closing::{is_drained, stuck_peers};
 use crate::draining::pass;
@@ -28,7 +28,7 @@ pub enum Ran {
 
 /// What one round came to.
 #[derive(Drop)]
-enum Round {
+enum RoundEnd {
     /// Another round follows.
     Again(Site),
     /// All commands have ended.
@@ -39,7 +39,7 @@ enum Round {
 
 /// What all rounds came to.
 #[derive(Drop)]
-enum Rounds {
+enum RoundsEnd {
     /// All commands have ended.
     Ended(Site),
     /// The closed bus is stuck: these peers wait.
@@ -48,7 +48,7 @@ enum Rounds {
 
 /// What one pass of the drain came to.
 #[derive(Drop)]
-enum Pass {
+enum PassEnd {
     /// Another pass follows.
     Again(Site),
     /// The closed bus is drained.
@@ -68,9 +68,9 @@ pub fn run<R: Threads + Wait + Sync, G: Gate + Sync>(
     ensures { IfOk result (λ ran. RunsAsPromised script.now ran) }
 {
     let site = open_site(alloc, script)?;
-    match rounds(rt, alloc, gate, script, site)? {
-        Rounds::Ended(site) => Ok(Ran::Done(drain(rt, alloc, gate, script, site)?)),
-        Rounds::Stuck { closed, waiting } => Ok(stalled(script, closed, waiting)),
+    match all_rounds(rt, alloc, gate, script, site)? {
+        RoundsEnd::Ended(site) => Ok(Ran::Done(drain(rt, alloc, gate, script, site)?)),
+        RoundsEnd::Stuck { closed, waiting } => Ok(stalled(script, closed, waiting)),
     }
 }
 
@@ -81,53 +81,60 @@ fn next_round<R: Threads + Wait + Sync, G: Gate + Sync>(
     gate: &G,
     script: &Script,
     mut site: Site,
-) -> Result<Round, AllocError>
+) -> Result<RoundEnd, AllocError>
     requires { IsSite script.now.opening script.now.commands site }
-    ensures { IfOk result (λ end. RoundEnds script.now end) }
+    ensures { IfOk result (λ end. ComesTo script.now end) }
 {
     let lists = &script.commands;
-    round(rt, alloc, &site.bus, gate, lists, site.workers.as_mut_slice());
+    round(
+        rt,
+        alloc,
+        &site.bus,
+        gate,
+        lists,
+        site.workers.as_mut_slice(),
+    );
     if some_short(site.workers.as_slice()) {
         return Err(AllocError);
     }
     if all_ended(lists, site.workers.as_slice()) {
-        return Ok(Round::Ended(site));
+        return Ok(RoundEnd::Ended(site));
     }
     if some_gained(site.workers.as_slice()) {
-        return Ok(Round::Again(site));
+        return Ok(RoundEnd::Again(site));
     }
     look_for_stall(alloc, script, site)
 }
 
 /// The closed bus where it is stuck, else the bus opened again.
-fn look_for_stall(alloc: Global, script: &Script, site: Site) -> Result<Round, AllocError>
+fn look_for_stall(alloc: Global, script: &Script, site: Site) -> Result<RoundEnd, AllocError>
     requires { IsSite script.now.opening script.now.commands site }
-    ensures { IfOk result (λ end. RoundEnds script.now end) }
+    ensures { IfOk result (λ end. ComesTo script.now end) }
 {
     let closed = close_site(alloc, script, site)?;
     match stuck_peers(alloc, &script.commands, &closed)? {
-        Some(waiting) => Ok(Round::Stuck { closed, waiting }),
-        None => Ok(Round::Again(reopen_site(alloc, script, closed)?)),
+        Some(waiting) => Ok(RoundEnd::Stuck { closed, waiting }),
+        None => Ok(RoundEnd::Again(reopen_site(alloc, script, closed)?)),
     }
 }
 
 /// Rounds until all commands have ended or the bus is stuck.
-fn rounds<R: Threads + Wait + Sync, G: Gate + Sync>(
+fn all_rounds<R: Threads + Wait + Sync, G: Gate + Sync>(
     rt: &R,
     alloc: Global,
     gate: &G,
     script: &Script,
     site: Site,
-) -> Result<Rounds, AllocError>
+) -> Result<RoundsEnd, AllocError>
     requires { IsSite script.now.opening script.now.commands site }
-    ensures { IfOk result (λ end. RoundsEnd script.now end) }
+    ensures { IfOk result (λ end. AllCome script.now end) }
 {
     let mut site = site;
     for _ in rt.forever() {
         match next_round(rt, alloc, gate, script, site)? {
-            Round::Again(next) => site = next,
-            Round::Ended(site) => return Ok(Rounds::Ended(site)),
-            Round::Stuck { closed, waiting } => return Ok(Rounds::Stuck { closed, waiting }),
+            RoundEnd::Again(next) => site = next,
+            RoundEnd::Ended(site) => return Ok(RoundsEnd::Ended(site)),
+            RoundEnd::Stuck { closed, waiting } => return Ok(RoundsEnd::Stuck { closed, waiting }),
         }
     }
     unreachable!()
@@ -140,10 +147,10 @@ fn next_pass<R: Threads + Wait + Sync, G: Gate + Sync>(
     gate: &G,
     script: &Script,
     mut site: Site,
-) -> Result<Pass, AllocError>
+) -> Result<PassEnd, AllocError>
     requires site { IsSite script.now.opening script.now.commands site }
     requires ended { AllEnded script.now.commands site.workers.items }
-    ensures { IfOk result (λ end. PassEnds script.now end) }
+    ensures { IfOk result (λ end. PassesTo script.now end) }
 {
     let lists = &script.commands;
     pass(rt, &site.bus, gate, lists, site.workers.as_mut_slice());
@@ -151,22 +158,22 @@ fn next_pass<R: Threads + Wait + Sync, G: Gate + Sync>(
         return Err(AllocError);
     }
     if some_gained(site.workers.as_slice()) {
-        return Ok(Pass::Again(site));
+        return Ok(PassEnd::Again(site));
     }
     look_for_end(alloc, script, site)
 }
 
 /// The closed bus where it is drained, else the bus opened again.
-fn look_for_end(alloc: Global, script: &Script, site: Site) -> Result<Pass, AllocError>
+fn look_for_end(alloc: Global, script: &Script, site: Site) -> Result<PassEnd, AllocError>
     requires site { IsSite script.now.opening script.now.commands site }
     requires ended { AllEnded script.now.commands site.workers.items }
-    ensures { IfOk result (λ end. PassEnds script.now end) }
+    ensures { IfOk result (λ end. PassesTo script.now end) }
 {
     let closed = close_site(alloc, script, site)?;
     if is_drained(&closed) {
-        return Ok(Pass::Drained(closed));
+        return Ok(PassEnd::Drained(closed));
     }
-    Ok(Pass::Again(reopen_site(alloc, script, closed)?))
+    Ok(PassEnd::Again(reopen_site(alloc, script, closed)?))
 }
 
 /// Passes of the drain until the bus is drained: its record.
@@ -184,8 +191,8 @@ fn drain<R: Threads + Wait + Sync, G: Gate + Sync>(
     let mut site = site;
     for _ in rt.forever() {
         match next_pass(rt, alloc, gate, script, site)? {
-            Pass::Again(next) => site = next,
-            Pass::Drained(closed) => return Ok(done(script, closed)),
+            PassEnd::Again(next) => site = next,
+            PassEnd::Drained(closed) => return Ok(done(script, closed)),
         }
     }
     unreachable!()

@@ -3,6 +3,7 @@ ghost use Rattle.b1_run.specs.Workers.{IsAt, MayHaveRoom, has_removed};
 
 use b1_bus::{Bus, Driver};
 use b1_edge::Gate;
+use b1_model::Command;
 use b1_script::resolve_after;
 use std::alloc::Global;
 use std::sync::Wait;
