@@ -99,6 +99,10 @@ next_stage o d c m f k moves =
 none_goes : (o : Opening) (m f : DriverPart) → m.doing ≡ None → Moves o m None f → ⊥
 none_goes o m f idle moves = let step = moves.step in cc (sym (ap (λ b. option_map aimed (begun_by m b None)) idle) ∙ ap (λ z. target z None) (sym moves.from) ∙ step.is_target)
 
+pub stays_closed : (o : Opening) (n : ℕ) (m f : DriverPart) → m.doing ≡ None → GoesOn o n m f → f ≡ m
+stays_closed o zero m f idle same = sym same
+stays_closed o (suc n) m f idle (l, before, moves) = absurd (none_goes o l f (ap (λ z. z.doing) (stays_closed o n m l idle before) ∙ idle) moves)
+
 goes_on : (o : Opening) (d : DriverPart) (c : Command) (n : ℕ) (m f : DriverPart) → Stage d c m → GoesOn o n m f → Stage d c f
 goes_on o d c zero m f k same = subst (Stage d c) same k
 goes_on o d c (suc n) m f k (l, before, moves) = elim (goes_on o d c n m l k before) [

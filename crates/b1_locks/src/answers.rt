@@ -1,8 +1,8 @@
 ghost use Rattle.std.specs.Prelude.{◌≡◌};
 ghost use Rattle.b1_edge.specs.Ports.{destroyed_answer, done_answer, received_answer};
-ghost use Rattle.b1_locks.specs.Calls.{got_answer, info_answer, reset_answer, Shows};
+ghost use Rattle.b1_locks.specs.Calls.{got_answer, info_answer, reset_answer, IsTried, Shows};
 
-use b1_model::{Answer, PeerSpec, Reason, Receipt};
+use b1_model::{Answer, PeerSpec, Reason, Receipt, Tried};
 
 /// What a command that answers no value came to.
 pub fn done(answer: &Answer) -> Result<(), Reason>
@@ -65,5 +65,16 @@ pub fn received(answer: &Answer) -> Result<&Receipt, Reason>
         Answer::Got(receipt) => Ok(receipt),
         Answer::Refused(refused) => Err(refused.reason),
         _ => unreachable!(),
+    }
+}
+
+/// What an attempt to receive that added a call came to.
+pub fn tried(answer: &Answer) -> Tried
+    requires { Shows got_answer answer.now }
+    ensures { IsTried result answer.now }
+{
+    match answer {
+        Answer::Got(_) => Tried::Got,
+        _ => Tried::Shut,
     }
 }

@@ -12,6 +12,7 @@ mod driver;
 mod event;
 mod finish;
 mod locks;
+mod receive;
 mod run;
 mod short;
 
