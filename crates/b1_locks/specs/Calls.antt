@@ -1,5 +1,5 @@
 -- What a command that was done leaves of its driver, and which answers the commands have.
-use Rattle.std.specs.Prelude.{◌≡◌, ⊤, ℕ, ◌+◌, ◌-◌, ◌^◌, min, false, ◌||◌, List, Option, Some, None, Result, Ok, Err}
+use Rattle.std.specs.Prelude.{◌≡◌, ⊤, ℕ, ◌+◌, ◌-◌, ◌^◌, ◌≤◌, length, min, false, ◌||◌, List, Option, Some, None, Result, Ok, Err}
 use Rattle.b1_model.specs.declared.naming.PeerSpec.{PeerSpec}
 use Rattle.b1_model.specs.declared.answers.Answer.{Answer}
 use Rattle.b1_model.specs.declared.answers.Answer.TheVariants as answer
@@ -70,3 +70,8 @@ abbrev pub HasTried : DriverFace → Tried → DriverFace → Type 0
 HasTried d Got e = (receipt : Receipt) × (e.own.part.calls ≡ with_call cmd.Recv (answer.Got receipt) d.own.part.calls) × Did d cmd.Await (answer.Got receipt) e
 HasTried d Shut e = (e.own.part.calls ≡ with_call cmd.Recv (refused_with Shutdown) d.own.part.calls) × Did d cmd.Await (refused_with Shutdown) e
 HasTried d (Waiting front removed) e = Waits d front removed e
+
+-- a list of so many places holds what each destination of a SEND answered
+abbrev pub FitsIn : ℕ → Answer → Type 0
+FitsIn n (answer.Sent b) = length b.places ≤ n
+FitsIn n got = ⊤

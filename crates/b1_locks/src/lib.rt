@@ -14,6 +14,7 @@ mod finish;
 mod locks;
 mod receive;
 mod run;
+mod send;
 mod short;
 
 pub use bus::{Board, Bus, Place};
