@@ -1,0 +1,4 @@
+mod Parts
+mod Goes
+mod Charges
+mod Answers
