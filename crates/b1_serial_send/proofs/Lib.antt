@@ -1,4 +1,6 @@
+mod Lists
 mod Parts
 mod Goes
 mod Charges
 mod Answers
+mod Staging
