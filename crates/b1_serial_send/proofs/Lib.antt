@@ -3,4 +3,6 @@ mod Parts
 mod Goes
 mod Charges
 mod Answers
+mod Accepted
 mod Staging
+mod Attaching
