@@ -6,3 +6,4 @@ mod Answers
 mod Accepted
 mod Staging
 mod Attaching
+mod Committing
