@@ -41,11 +41,11 @@ module _ {X : Type 0} (test : X → Bool) where
 
   pub any_found : (xs : List X) → list_any test xs ≡ true → (i : ℕ) × (x : X) × (slice_get xs i ≡ Some x) × (test x ≡ true)
   any_found [] none = absurd (cc none)
-  any_found (y ∷ ys) some = by (test y) refl some
+  any_found (y ∷ ys) some = by (any_found ys) (test y) refl some
     where
-      by : (b : Bool) → test y ≡ b → b || list_any test ys ≡ true → (i : ℕ) × (x : X) × (slice_get (y ∷ ys) i ≡ Some x) × (test x ≡ true)
-      by true passes some = (zero, y, refl, passes)
-      by false fails some = let later = any_found ys some in (suc later.0, later.1, later.2, later.3)
+      by : (list_any test ys ≡ true → (i : ℕ) × (x : X) × (slice_get ys i ≡ Some x) × (test x ≡ true)) → (b : Bool) → test y ≡ b → b || list_any test ys ≡ true → (i : ℕ) × (x : X) × (slice_get (y ∷ ys) i ≡ Some x) × (test x ≡ true)
+      by further true passes some = (zero, y, refl, passes)
+      by further false fails some = let later = further some in (suc later.0, later.1, later.2, later.3)
 
   pub any_fails : (xs : List X) (i : ℕ) (x : X) → list_any test xs ≡ false → slice_get xs i ≡ Some x → test x ≡ false
   any_fails xs i x none is = by (test x) refl
@@ -138,22 +138,19 @@ module _ {o : Opening} {s : State} (sound : IsSound o s) (quiet : IsQuiet s) whe
   pub unheld_abroad : (x : NodeRef) (w : PeerPart) → IsPeer s x.owner w → x.serial < length w.nodes → is_unheld (node_at w x.serial) ≡ not (is_abroad x (bus_of s))
   unheld_abroad x w is made = by (is_abroad x (bus_of s)) refl
     where
-      abbrev counts : List ℕ
-      counts = (node_at w x.serial).counts
-
-      count_is : (q : ℕ) → count_in s x q ≡ get_or counts q 0
+      count_is : (q : ℕ) → count_in s x q ≡ get_or (node_at w x.serial).counts q 0
       count_is q = ap (λ r. elim r [ None ↦ 0 | Some v ↦ count_of (node_at v x.serial) q ]) is
 
-      wide : length counts ≡ length s.peers
+      wide : length (node_at w x.serial).counts ≡ length s.peers
       wide = sound.references.widths x.owner w (node_at w x.serial) is (has_within w.nodes x.serial no_node made)
 
       held : is_abroad x (bus_of s) ≡ true → is_unheld (node_at w x.serial) ≡ true → ⊥
       held some all =
           let found = any_found (refers x) (bus_of s) some in
-          let none : count_in s x found.0 ≡ 0 = count_is found.0 ∙ zero_at counts found.0 all in
+          let none : count_in s x found.0 ≡ 0 = count_is found.0 ∙ zero_at (node_at w x.serial).counts found.0 all in
           absurd (cc (sym found.3 ∙ refers_counted x found.0 found.1 found.2 ∙ ap (nat_lt 0) none))
 
-      unheld : is_abroad x (bus_of s) ≡ false → (i : ℕ) → i < length counts → get_or counts i 0 ≡ 0
+      unheld : is_abroad x (bus_of s) ≡ false → (i : ℕ) → i < length (node_at w x.serial).counts → get_or (node_at w x.serial).counts i 0 ≡ 0
       unheld none i less =
           let peers = sound.numbered.as_many_peers in
           let drivers = sound.numbered.as_many_drivers in
@@ -167,4 +164,4 @@ module _ {o : Opening} {s : State} (sound : IsSound o s) (quiet : IsQuiet s) whe
 
       by : (b : Bool) → is_abroad x (bus_of s) ≡ b → is_unheld (node_at w x.serial) ≡ not b
       by true some = false_from_ne_true (is_unheld (node_at w x.serial)) (held some)
-      by false none = all_zero counts (unheld none)
+      by false none = all_zero (node_at w x.serial).counts (unheld none)

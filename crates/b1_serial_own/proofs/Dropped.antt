@@ -51,11 +51,11 @@ without_none test (f ∷ rest) none = ap (λ b. cond (not b) (f ∷ without test
 -- what leaves passes no other test
 pub any_left : (test leaves : Key × Entry → Bool) (queue : List (Key × Entry)) → ((f : Key × Entry) → leaves f ≡ true → test f ≡ false) → list_any test (without leaves queue) ≡ list_any test queue
 any_left test leaves [] none = refl
-any_left test leaves (f ∷ rest) none = by (leaves f) refl
+any_left test leaves (f ∷ rest) none = by (any_left test leaves rest none) (leaves f) refl
   where
-    by : (b : Bool) → leaves f ≡ b → list_any test (cond (not b) (f ∷ without leaves rest) (without leaves rest)) ≡ test f || list_any test rest
-    by true goes = any_left test leaves rest none ∙ sym (ap (λ b. b || list_any test rest) (none f goes))
-    by false stays = ap (λ b. test f || b) (any_left test leaves rest none)
+    by : list_any test (without leaves rest) ≡ list_any test rest → (b : Bool) → leaves f ≡ b → list_any test (cond (not b) (f ∷ without leaves rest) (without leaves rest)) ≡ test f || list_any test rest
+    by further true goes = further ∙ sym (ap (λ b. b || list_any test rest) (none f goes))
+    by further false stays = ap (λ b. test f || b) further
 
 pub notice_is : (serial : ℕ) (f : Key × Entry) → is_release_notice serial f ≡ true → f ≡ (f.0, ReleaseNotice serial)
 notice_is serial (k, Message origin user index dest offset len nodes slots handles payload) is = absurd (cc is)

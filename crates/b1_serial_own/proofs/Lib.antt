@@ -5,3 +5,5 @@ pub mod Lowered
 pub mod BoxKept
 pub mod Abroad
 pub mod Dropped
+pub mod Given
+pub mod Release

@@ -77,13 +77,14 @@ module _ (number : ℕ) (node : NodeRef) where
   -- lowered, where the records are so
   pub lines_lowered : (hs : Handles) → Rising hs → Alone number node hs → (h : HandleRecord) → Has hs h → h.number ≡ Some number → lowered number (lines_of hs) ≡ lines_of (changed node less_held hs)
   lines_lowered [] up alone h there is = absurd there
-  lines_lowered (g ∷ rest) up alone h there is = by (same_ref g.node node) refl
+  lines_lowered (g ∷ rest) up alone h there is = by (λ apart. lines_lowered rest up.1 later_alone h (in_rest apart) is) (same_ref g.node node) refl
     where
       in_rest : same_ref g.node node ≡ false → Has rest h
-      in_rest apart = elim there [
-        | inl same ↦ absurd (cc (sym apart ∙ ap (λ z. same_ref z.node node) (sym same) ∙ alone.numbered h there is))
-        | inr later ↦ later
-      ]
+      in_rest apart = by_place there (alone.numbered h there is)
+        where
+          by_place : Has (g ∷ rest) h → same_ref h.node node ≡ true → Has rest h
+          by_place (inl same) its = absurd (cc (sym apart ∙ ap (λ z. same_ref z.node node) (sym same) ∙ its))
+          by_place (inr later) its = later
 
       -- behind the node's own record there is none with its number
       none_later : same_ref g.node node ≡ true → (k : HandleRecord) → Has rest k → k.number ≢ Some number
@@ -101,12 +102,12 @@ module _ (number : ℕ) (node : NodeRef) where
         one = λ k l first second. alone.one k l (inr first) (inr second);
       }
 
-      by : (b : Bool) → same_ref g.node node ≡ b → lowered number (with_line g.number g (lines_of rest)) ≡ lines_of (cond b (cond (is_needed (less_held g)) (less_held g ∷ rest) rest) (g ∷ changed node less_held rest))
-      by true own =
+      by : (same_ref g.node node ≡ false → lowered number (lines_of rest) ≡ lines_of (changed node less_held rest)) → (b : Bool) → same_ref g.node node ≡ b → lowered number (with_line g.number g (lines_of rest)) ≡ lines_of (cond b (cond (is_needed (less_held g)) (less_held g ∷ rest) rest) (g ∷ changed node less_held rest))
+      by further true own =
           let facts = alone.own g (inl refl) own in
           lowered_own g rest facts.0 facts.1 (none_numbered number rest (none_later own))
-      by false apart =
-          lowered_other g rest (λ numbered. absurd (cc (sym apart ∙ alone.numbered g (inl refl) numbered))) (lines_lowered rest up.1 later_alone h (in_rest apart) is)
+      by further false apart =
+          lowered_other g rest (λ numbered. absurd (cc (sym apart ∙ alone.numbered g (inl refl) numbered))) (further apart)
 
 -- so it is where the records are numbered
 pub released_lines : (given number : ℕ) (node : NodeRef) (hs : Handles) → Rising hs → AreNumbered given hs → held_node number hs ≡ Some node → lowered number (lines_of hs) ≡ lines_of (changed node less_held hs)

@@ -54,7 +54,7 @@ read_beside (suc p) (suc q) f (z ∷ zs) apart = read_beside p q f zs (λ e. apa
 pub as_many_at : (p : ℕ) (f : Part → Part) (bus : Bus) → length (at_peer p f bus) ≡ length bus
 as_many_at p f [] = refl
 as_many_at zero f (y ∷ ys) = refl
-as_many_at (suc p) f (y ∷ ys) = ap (λ n. 1 + n) (as_many_at p f ys)
+as_many_at (suc p) f (y ∷ ys) = ap suc (as_many_at p f ys)
 
 -- ---- the parts of a state
 
@@ -94,15 +94,11 @@ module _ {o : Opening} {s : State} {p : ℕ} {command : Option Command} {t : Sta
       there : slice_get s.peers p ≡ Some step.peer
       there = ap (slice_get s.peers) (sym at_is) ∙ step.is_peer
 
-      -- the part between
-      abbrev to : Part → Part
-      to y = part_of step.new_peer step.driver
-
       both : parts_of (set s.peers p step.new_peer) (set s.drivers p step.new_driver) ≡ at_peer p f (parts_of s.peers s.drivers)
       both =
           driver_changed (λ y. part_of step.new_peer step.new_driver) (set s.peers p step.new_peer) s.drivers p step.new_peer step.driver step.new_driver (read_set s.peers p step.peer step.new_peer there) step.is_driver refl
-          ∙ ap (at_peer p (λ y. part_of step.new_peer step.new_driver)) (peer_changed to s.peers s.drivers p step.peer step.new_peer step.driver there step.is_driver refl)
-          ∙ at_twice p to (λ y. part_of step.new_peer step.new_driver) (parts_of s.peers s.drivers)
+          ∙ ap (at_peer p (λ y. part_of step.new_peer step.new_driver)) (peer_changed (λ y. part_of step.new_peer step.driver) s.peers s.drivers p step.peer step.new_peer step.driver there step.is_driver refl)
+          ∙ at_twice p (λ y. part_of step.new_peer step.driver) (λ y. part_of step.new_peer step.new_driver) (parts_of s.peers s.drivers)
           ∙ at_same p (λ y. part_of step.new_peer step.new_driver) f (parts_of s.peers s.drivers) (λ y is. sym same ∙ ap f (same_Some (part_of step.peer step.driver) y (sym (part_there s.peers s.drivers p step.peer step.driver there step.is_driver) ∙ is)))
 
   -- at another peer

@@ -25,7 +25,7 @@ not_below_less m n (l ∷ rest) less above = let one = above.0 in (omega (arith,
 -- a line comes in first, where no number is below its own
 put_first : (l : HeldLine) (ls : Lines) → NotBelow l.number ls → put_line l ls ≡ l ∷ ls
 put_first l [] above = refl
-put_first l (m ∷ rest) above = ap (λ b. cond b (m ∷ put_line l rest) (l ∷ m ∷ rest)) (le-ltb l.number m.number above.0)
+put_first l (m ∷ rest) above = ap (λ b. cond b (m ∷ put_line l rest) (l ∷ m ∷ rest)) (le-ltb m.number l.number above.0)
 
 put_not_below : (n : ℕ) (l : HeldLine) (ls : Lines) → n ≤ l.number → NotBelow n ls → NotBelow n (put_line l ls)
 put_not_below n l [] less above = (less, tt)
@@ -33,11 +33,11 @@ put_not_below n l (m ∷ rest) less above = elim (nat_lt m.number l.number) as (
 
 pub put_in_order : (l : HeldLine) (ls : Lines) → InOrder ls → InOrder (put_line l ls)
 put_in_order l [] up = (tt, tt)
-put_in_order l (m ∷ rest) up = by (nat_lt m.number l.number) refl
+put_in_order l (m ∷ rest) up = by (put_in_order l rest up.1) (nat_lt m.number l.number) refl
   where
-    by : (b : Bool) → nat_lt m.number l.number ≡ b → InOrder (cond b (m ∷ put_line l rest) (l ∷ m ∷ rest))
-    by true is = let less = ltb-true m.number l.number is in (put_not_below m.number l rest (omega (arith, less)) up.0, put_in_order l rest up.1)
-    by false is = let most = ltb-false m.number l.number is in ((most, not_below_less l.number m.number rest most up.0), up)
+    by : InOrder (put_line l rest) → (b : Bool) → nat_lt m.number l.number ≡ b → InOrder (cond b (m ∷ put_line l rest) (l ∷ m ∷ rest))
+    by further true is = let less = ltb-true m.number l.number is in (put_not_below m.number l rest (omega (arith, less)) up.0, further)
+    by further false is = let most = ltb-false m.number l.number is in ((most, not_below_less l.number m.number rest most up.0), up)
 
 -- the lines of records are in order
 pub lines_in_order : (hs : List HandleRecord) → InOrder (lines_of hs)
@@ -58,22 +58,22 @@ lowered_not_below n number (l ∷ rest) above = elim (l.number == number) as (λ
 -- another line comes in before or after one is lowered
 pub put_lowered : (number : ℕ) (l : HeldLine) (ls : Lines) → InOrder ls → l.number ≢ number → lowered number (put_line l ls) ≡ put_line l (lowered number ls)
 put_lowered number l [] up apart = ap (λ b. cond (not b) (l ∷ []) (cond (l.held == 1) [] (record l { held = l.held - 1 } ∷ []))) (ne_eqb l.number number apart)
-put_lowered number l (m ∷ rest) up apart = by (nat_lt m.number l.number) refl
+put_lowered number l (m ∷ rest) up apart = by (put_lowered number l rest up.1 apart) (nat_lt m.number l.number) refl
   where
     -- the line stays behind the first
     kept : (c : Bool) → nat_lt m.number l.number ≡ true → cond c (put_line l rest) (record m { held = m.held - 1 } ∷ put_line l rest) ≡ put_line l (cond c rest (record m { held = m.held - 1 } ∷ rest))
     kept true is = refl
     kept false is = ap (λ b. cond b (record m { held = m.held - 1 } ∷ put_line l rest) (l ∷ record m { held = m.held - 1 } ∷ rest)) (sym is)
 
-    behind : nat_lt m.number l.number ≡ true → (c : Bool) → m.number == number ≡ c
+    behind : lowered number (put_line l rest) ≡ put_line l (lowered number rest) → nat_lt m.number l.number ≡ true → (c : Bool) → m.number == number ≡ c
         → cond (not c) (m ∷ lowered number (put_line l rest)) (cond (m.held == 1) (put_line l rest) (record m { held = m.held - 1 } ∷ put_line l rest))
         ≡ put_line l (cond (not c) (m ∷ lowered number rest) (cond (m.held == 1) rest (record m { held = m.held - 1 } ∷ rest)))
-    behind is true own = kept (m.held == 1) is
-    behind is false other = ap (λ ls. m ∷ ls) (put_lowered number l rest up.1 apart) ∙ ap (λ b. cond b (m ∷ put_line l (lowered number rest)) (l ∷ m ∷ lowered number rest)) (sym is)
+    behind further is true own = kept (m.held == 1) is
+    behind further is false other = ap (λ ls. m ∷ ls) further ∙ ap (λ b. cond b (m ∷ put_line l (lowered number rest)) (l ∷ m ∷ lowered number rest)) (sym is)
 
-    by : (b : Bool) → nat_lt m.number l.number ≡ b → lowered number (cond b (m ∷ put_line l rest) (l ∷ m ∷ rest)) ≡ put_line l (lowered number (m ∷ rest))
-    by true is = behind is (m.number == number) refl
-    by false is =
+    by : lowered number (put_line l rest) ≡ put_line l (lowered number rest) → (b : Bool) → nat_lt m.number l.number ≡ b → lowered number (cond b (m ∷ put_line l rest) (l ∷ m ∷ rest)) ≡ put_line l (lowered number (m ∷ rest))
+    by further true is = behind further is (m.number == number) refl
+    by further false is =
         let most = ltb-false m.number l.number is in
         ap (λ b. cond (not b) (l ∷ lowered number (m ∷ rest)) (cond (l.held == 1) (m ∷ rest) (record l { held = l.held - 1 } ∷ m ∷ rest))) (ne_eqb l.number number apart)
         ∙ sym (put_first l (lowered number (m ∷ rest)) (lowered_not_below l.number number (m ∷ rest) (most, not_below_less l.number m.number rest most up.0)))
@@ -90,17 +90,17 @@ put_none_numbered n l (m ∷ rest) apart none = elim (nat_lt m.number l.number) 
 -- the line that comes in is lowered: it goes with the last, and else comes in held once less
 pub put_own_lowered : (l : HeldLine) (ls : Lines) → InOrder ls → NoneNumbered l.number ls → lowered l.number (put_line l ls) ≡ cond (l.held == 1) ls (put_line (record l { held = l.held - 1 }) ls)
 put_own_lowered l [] up none = ap (λ b. cond (not b) (l ∷ []) (cond (l.held == 1) [] (record l { held = l.held - 1 } ∷ []))) (eq-eqb l.number l.number refl)
-put_own_lowered l (m ∷ rest) up none = by (nat_lt m.number l.number) refl
+put_own_lowered l (m ∷ rest) up none = by (put_own_lowered l rest up.1 none.1) (nat_lt m.number l.number) refl
   where
     behind : (c : Bool) → nat_lt m.number l.number ≡ true → m ∷ cond c rest (put_line (record l { held = l.held - 1 }) rest) ≡ cond c (m ∷ rest) (put_line (record l { held = l.held - 1 }) (m ∷ rest))
     behind true is = refl
     behind false is = ap (λ b. cond b (m ∷ put_line (record l { held = l.held - 1 }) rest) (record l { held = l.held - 1 } ∷ m ∷ rest)) (sym is)
 
-    by : (b : Bool) → nat_lt m.number l.number ≡ b → lowered l.number (cond b (m ∷ put_line l rest) (l ∷ m ∷ rest)) ≡ cond (l.held == 1) (m ∷ rest) (put_line (record l { held = l.held - 1 }) (m ∷ rest))
-    by true is =
+    by : lowered l.number (put_line l rest) ≡ cond (l.held == 1) rest (put_line (record l { held = l.held - 1 }) rest) → (b : Bool) → nat_lt m.number l.number ≡ b → lowered l.number (cond b (m ∷ put_line l rest) (l ∷ m ∷ rest)) ≡ cond (l.held == 1) (m ∷ rest) (put_line (record l { held = l.held - 1 }) (m ∷ rest))
+    by further true is =
         ap (λ b. cond (not b) (m ∷ lowered l.number (put_line l rest)) (cond (m.held == 1) (put_line l rest) (record m { held = m.held - 1 } ∷ put_line l rest))) (ne_eqb m.number l.number none.0)
-        ∙ ap (λ ls. m ∷ ls) (put_own_lowered l rest up.1 none.1)
+        ∙ ap (λ ls. m ∷ ls) further
         ∙ behind (l.held == 1) is
-    by false is =
+    by further false is =
         ap (λ b. cond (not b) (l ∷ lowered l.number (m ∷ rest)) (cond (l.held == 1) (m ∷ rest) (record l { held = l.held - 1 } ∷ m ∷ rest))) (eq-eqb l.number l.number refl)
         ∙ ap (λ b. cond (l.held == 1) (m ∷ rest) (cond b (m ∷ put_line (record l { held = l.held - 1 }) rest) (record l { held = l.held - 1 } ∷ m ∷ rest))) (sym is)
