@@ -1,4 +1,5 @@
 mod Lists
+mod Keys
 mod Parts
 mod Goes
 mod Charges
