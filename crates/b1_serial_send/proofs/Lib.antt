@@ -8,3 +8,4 @@ mod Accepted
 mod Staging
 mod Attaching
 mod Committing
+mod Copies
