@@ -100,7 +100,7 @@ module _ (bus : Bus) (nodes : List NodeRef) where
 
 -- ---- what attaches leave
 
-eqb_turned : (a b : ℕ) → a == b ≡ b == a
+pub eqb_turned : (a b : ℕ) → a == b ≡ b == a
 eqb_turned a b = by (cases_eq a b)
   where
     by : (a ≡ b) ⊎ (a ≡ b → ⊥) → a == b ≡ b == a

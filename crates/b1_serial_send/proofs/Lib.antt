@@ -9,3 +9,4 @@ mod Staging
 mod Attaching
 mod Committing
 mod Copies
+mod Gone
