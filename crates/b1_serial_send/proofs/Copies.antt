@@ -73,7 +73,7 @@ copies_append s q stamp slots place slices ((to, None) ∷ rest) es = by (to.own
 -- ---- staged
 
 -- the next key comes last where this one did
-next_last : (s : Letter) (stamp place : ℕ) (e : Entry) (queue : List (Key × Entry)) → IsLast (place_key s stamp place) queue → IsLast (place_key s stamp (place + 1)) (queue ++ (place_key s stamp place, e) ∷ [])
+pub next_last : (s : Letter) (stamp place : ℕ) (e : Entry) (queue : List (Key × Entry)) → IsLast (place_key s stamp place) queue → IsLast (place_key s stamp (place + 1)) (queue ++ (place_key s stamp place, e) ∷ [])
 next_last s stamp place e queue last f there = by (has_append queue ((place_key s stamp place, e) ∷ []) f there)
   where
     rises : key_before (place_key s stamp place) (place_key s stamp (place + 1)) ≡ true
@@ -84,7 +84,7 @@ next_last s stamp place e queue last f there = by (has_append queue ((place_key 
     by (inr (inl same)) = ap (λ g. key_before (place_key s stamp (place + 1)) g.0) same ∙ not_back (place_key s stamp place) (place_key s stamp (place + 1)) rises
     by (inr (inr none)) = absurd none
 
-later_last : (s : Letter) (stamp place : ℕ) (queue : List (Key × Entry)) → IsLast (place_key s stamp place) queue → IsLast (place_key s stamp (place + 1)) queue
+pub later_last : (s : Letter) (stamp place : ℕ) (queue : List (Key × Entry)) → IsLast (place_key s stamp place) queue → IsLast (place_key s stamp (place + 1)) queue
 later_last s stamp place queue last f there = not_behind_later (place_key s stamp place) (place_key s stamp (place + 1)) f.0 (before_index (place_key s stamp place) (place_key s stamp (place + 1)) refl refl (omega arith)) (last f there)
 
 pub stages_queue : (s : Letter) (place : ℕ) (ds : Answered) (x : PeerPart) → IsLast (place_key s (x.clock + 1) place) x.queue

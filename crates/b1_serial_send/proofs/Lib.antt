@@ -10,3 +10,4 @@ mod Attaching
 mod Committing
 mod Copies
 mod Gone
+mod Delivered
