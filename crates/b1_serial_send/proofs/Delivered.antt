@@ -1,5 +1,5 @@
 -- A delivered letter, read at each peer of the serial bus.
-use Rattle.std.proofs.Common.{◌≡◌, ◌⊎◌, refl, sym, ap, ap₂, ◌∙◌, subst, inl, inr, ℕ, zero, suc, ◌+◌, ◌==◌, Bool, true, false, cond, not, List, [], ◌∷◌, ◌++◌, map, fold, filter, Option, Some, None, option_map, is_some, arith}
+use Rattle.std.proofs.Common.{◌≡◌, ◌⊎◌, refl, sym, ap, ap₂, ◌∙◌, subst, inl, inr, ℕ, zero, suc, ◌+◌, ◌≤◌, ◌==◌, Bool, true, false, cond, not, List, [], ◌∷◌, ◌++◌, map, fold, filter, Option, Some, None, option_map, is_some, arith}
 use Rattle.std.specs.Prelude.{slice_get}
 use Rattle.std.proofs.lemmas.Bool.{eq-eqb, ne_eqb, eqb-true, cases_eq}
 use Rattle.std.proofs.lemmas.List.{append_assoc}
@@ -154,21 +154,21 @@ module _ (s : Letter) (stamp : ℕ) (whole : Bus) (q : ℕ) where
   append_nil [] = refl
   append_nil (z ∷ zs) = ap (λ ys. z ∷ ys) (append_nil zs)
 
-  pub delivered_read : (ds : Answered) (place : ℕ) (bus : Bus) (y : Part) → slice_get bus q ≡ Some y → ((x : NodeRef) → destroyed_in bus x ≡ destroyed_in whole x) → IsLast (place_key s stamp place) y.box
+  pub delivered_read : (ds : Answered) (place : ℕ) (bus : Bus) (y : Part) → slice_get bus q ≡ Some y → ((x : NodeRef) → destroyed_in bus x ≡ destroyed_in whole x) → (1 ≤ count_at q ds → IsLast (place_key s stamp place) y.box)
       → slice_get (delivered_from s stamp place ds bus) q ≡ Some (behind place ds y)
   delivered_read [] place bus y there same last = there ∙ ap (λ zs. Some (with_three y y.clock y.slices zs)) (append_nil y.box)
-  delivered_read ((to, Some r) ∷ rest) place bus y there same last = delivered_read rest (place + 1) bus y there same (later_last s stamp place y.box last)
-  delivered_read ((to, None) ∷ rest) place bus y there same last = by (to.owner == q) refl (delivered_read rest (place + 1))
+  delivered_read ((to, Some r) ∷ rest) place bus y there same last = delivered_read rest (place + 1) bus y there same (λ some. later_last s stamp place y.box (last some))
+  delivered_read ((to, None) ∷ rest) place bus y there same last = by (to.owner == q) refl last (delivered_read rest (place + 1))
     where
       one : Key × Entry
       one = copy s stamp slots_here place to y.slices
 
       -- the message in its box
-      boxed : to.owner == q ≡ true → with_message bus s stamp place to y ≡ with_three y stamp (taken (letter_len s) y.slices) (y.box ++ one ∷ [])
-      boxed own =
+      boxed : to.owner == q ≡ true → IsLast (place_key s stamp place) y.box → with_message bus s stamp place to y ≡ with_three y stamp (taken (letter_len s) y.slices) (y.box ++ one ∷ [])
+      boxed own is_last =
           ap (λ k. with_three y stamp (taken (letter_len s) y.slices) (put (place_key s stamp place) (entry (map (slot_for bus k) s.with)) y.box)) (eqb-true to.owner q own)
           ∙ ap (λ sl. with_three y stamp (taken (letter_len s) y.slices) (put (place_key s stamp place) (entry sl) y.box)) (slots_same bus same s.with)
-          ∙ ap (λ zs. with_three y stamp (taken (letter_len s) y.slices) zs) (put_last (place_key s stamp place) one.1 y.box last)
+          ∙ ap (λ zs. with_three y stamp (taken (letter_len s) y.slices) zs) (put_last (place_key s stamp place) one.1 y.box is_last)
         where
           entry : List Slot → Entry
           entry sl = (copy s stamp sl place to y.slices).1
@@ -184,24 +184,25 @@ module _ (s : Letter) (stamp : ℕ) (whole : Bus) (q : ℕ) where
       same_then x = delivered_lives place to bus x ∙ same x
 
       Further : Type 0
-      Further = (b : Bus) (z : Part) → slice_get b q ≡ Some z → ((x : NodeRef) → destroyed_in b x ≡ destroyed_in whole x) → IsLast (place_key s stamp (place + 1)) z.box → slice_get (delivered_from s stamp (place + 1) rest b) q ≡ Some (behind (place + 1) rest z)
+      Further = (b : Bus) (z : Part) → slice_get b q ≡ Some z → ((x : NodeRef) → destroyed_in b x ≡ destroyed_in whole x) → (1 ≤ count_at q rest → IsLast (place_key s stamp (place + 1)) z.box) → slice_get (delivered_from s stamp (place + 1) rest b) q ≡ Some (behind (place + 1) rest z)
 
-      by : (b : Bool) → to.owner == q ≡ b → Further
+      by : (b : Bool) → to.owner == q ≡ b → (1 ≤ cond b (suc (count_at q rest)) (count_at q rest) → IsLast (place_key s stamp place) y.box) → Further
           → slice_get (delivered_from s stamp (place + 1) rest (delivered s stamp place to bus)) q
           ≡ Some (with_three y (clock_after q stamp rest (cond b stamp y.clock)) (after_taken (letter_len s) (cond b (suc (count_at q rest)) (count_at q rest)) y.slices)
               (gone_all q s.with rest (gone q to.owner s.with y.box) ++ cond b (one ∷ copies s q stamp slots_here (place + 1) (taken (letter_len s) y.slices) rest) (copies s q stamp slots_here (place + 1) y.slices rest)))
-      by true own further =
+      by true own last_if further =
+          let is_last : IsLast (place_key s stamp place) y.box = last_if (omega arith) in
           let z = with_three y stamp (taken (letter_len s) y.slices) (gone q to.owner s.with y.box ++ one ∷ []) in
           let is_z : slice_get (delivered s stamp place to bus) q ≡ Some z =
               notices_read q to.owner s.with then (with_three y stamp (taken (letter_len s) y.slices) (y.box ++ one ∷ []))
-              (read_change to.owner q (with_message bus s stamp place to) bus y there ∙ ap (λ b. Some (cond b (with_message bus s stamp place to y) y)) own ∙ ap Some (boxed own))
+              (read_change to.owner q (with_message bus s stamp place to) bus y there ∙ ap (λ b. Some (cond b (with_message bus s stamp place to y) y)) own ∙ ap Some (boxed own is_last))
               ∙ ap (λ zs. Some (with_three y stamp (taken (letter_len s) y.slices) zs)) (gone_append q to.owner s.with y.box (one ∷ []) no_release) in
           further (delivered s stamp place to bus) z is_z same_then
-          (next_last s stamp place one.1 (gone q to.owner s.with y.box) (gone_last (place_key s stamp place) to.owner s.with y.box last))
+          (λ some. next_last s stamp place one.1 (gone q to.owner s.with y.box) (gone_last (place_key s stamp place) to.owner s.with y.box is_last))
           ∙ ap (λ zs. Some (with_three y (clock_after q stamp rest stamp) (after_taken (letter_len s) (count_at q rest) (taken (letter_len s) y.slices)) zs))
           (ap (λ zs. zs ++ copies s q stamp slots_here (place + 1) (taken (letter_len s) y.slices) rest) (gone_all_append q s.with rest (gone q to.owner s.with y.box) (one ∷ []) no_release)
           ∙ append_assoc (gone_all q s.with rest (gone q to.owner s.with y.box)) (one ∷ []) (copies s q stamp slots_here (place + 1) (taken (letter_len s) y.slices) rest))
-      by false other further =
+      by false other last_if further =
           further (delivered s stamp place to bus) (record y { box = gone q to.owner s.with y.box })
           (notices_read q to.owner s.with then y (read_change to.owner q (with_message bus s stamp place to) bus y there ∙ ap (λ b. Some (cond b (with_message bus s stamp place to y) y)) other))
-          same_then (later_last s stamp place (gone q to.owner s.with y.box) (gone_last (place_key s stamp place) to.owner s.with y.box last))
+          same_then (λ some. later_last s stamp place (gone q to.owner s.with y.box) (gone_last (place_key s stamp place) to.owner s.with y.box (last_if some)))

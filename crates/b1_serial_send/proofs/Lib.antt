@@ -11,3 +11,4 @@ mod Committing
 mod Copies
 mod Gone
 mod Delivered
+mod Finals
