@@ -117,7 +117,7 @@ module _ (s : Letter) (stamp final : ℕ) (none : List Slot) (slots : ℕ → Li
   stage_itself : (i : ℕ) (to : NodeRef) (sl : List Slice) → is_stage s.origin i (copy s stamp none i to sl) ≡ true
   stage_itself i to sl = ap (λ b. b && (s.origin == s.origin) && (i == i)) odd ∙ ap (λ b. b && (i == i)) (eq-eqb s.origin s.origin refl) ∙ eq-eqb i i refl
 
-  stage_other : (i j : ℕ) (to : NodeRef) (sl : List Slice) → (i ≡ j → ⊥) → is_stage s.origin j (copy s stamp none i to sl) ≡ false
+  pub stage_other : (i j : ℕ) (to : NodeRef) (sl : List Slice) → (i ≡ j → ⊥) → is_stage s.origin j (copy s stamp none i to sl) ≡ false
   stage_other i j to sl apart = and_right (is_odd stamp && (s.origin == s.origin)) (i == j) (ne_eqb i j apart)
 
   -- a committed one isn't staged
