@@ -12,3 +12,4 @@ mod Copies
 mod Gone
 mod Delivered
 mod Finals
+mod Ending
