@@ -13,3 +13,4 @@ mod Gone
 mod Delivered
 mod Finals
 mod Ending
+mod Begun
