@@ -14,3 +14,4 @@ mod Delivered
 mod Finals
 mod Ending
 mod Begun
+mod Begin
