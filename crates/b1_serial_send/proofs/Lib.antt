@@ -15,3 +15,4 @@ mod Finals
 mod Ending
 mod Begun
 mod Begin
+mod Facts
