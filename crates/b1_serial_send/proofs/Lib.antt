@@ -16,3 +16,4 @@ mod Ending
 mod Begun
 mod Begin
 mod Facts
+mod Boxes
