@@ -17,3 +17,4 @@ mod Begun
 mod Begin
 mod Facts
 mod Boxes
+mod Stamps
