@@ -42,6 +42,9 @@ parts_read (x ∷ xs) (d ∷ ds) (suc q) = parts_read xs ds q
 pub bus_there : (s : State) (q : ℕ) (x : PeerPart) (w : DriverPart) → slice_get s.peers q ≡ Some x → slice_get s.drivers q ≡ Some w → slice_get (bus_of s) q ≡ Some (part_of x w)
 bus_there s q x w is_x is_w = parts_read s.peers s.drivers q ∙ ap₂ paired is_x is_w
 
+pub bus_none : (s : State) (q : ℕ) → slice_get s.peers q ≡ None → slice_get (bus_of s) q ≡ None
+bus_none s q none = parts_read s.peers s.drivers q ∙ ap (λ r. paired r (slice_get s.drivers q)) none
+
 set_read : {X : Type 0} (xs : List X) (i j : ℕ) (y z : X) → slice_get xs j ≡ Some z → slice_get (set xs i y) j ≡ Some (cond (i == j) y z)
 set_read xs i j y z is = by (cases_eq i j)
   where

@@ -124,19 +124,19 @@ module _ {o : Opening} {s : State} {bus : Bus} (opens : IsOpening o) (reached : 
   noticed_live q x is j (k, ReleaseNotice mine) there of = subst (λ i. is_live (node_at x i).state ≡ true) (eqb-true mine j of) (right.parts.releases.live q mine x k is there)
 
   module _ (p : ℕ) (c : SendCmd) where
-    begun_living : (q : ℕ) (x : PeerPart) → IsPeer s q x → (j : ℕ) → is_dying (node_at (with_begin p c x) j).state ≡ false
+    pub begun_living : (q : ℕ) (x : PeerPart) → IsPeer s q x → (j : ℕ) → is_dying (node_at (with_begin p c x) j).state ≡ false
     begun_living q x is j = elim (p == x.me) as (λ b. is_dying (node_at (cond b (begun_part x c) x) j).state ≡ false) [
       | true ↦ living_all x.peers (filter is_own c.with) x.nodes (living q x is) j
       | false ↦ living q x is j
     ]
 
-    begun_queue : (x : PeerPart) → (with_begin p c x).queue ≡ x.queue
+    pub begun_queue : (x : PeerPart) → (with_begin p c x).queue ≡ x.queue
     begun_queue x = at_keeps (λ z. z.queue) p (λ z. begun_part z c) x refl
 
-    begun_clock : (x : PeerPart) → (with_begin p c x).clock ≡ x.clock
+    pub begun_clock : (x : PeerPart) → (with_begin p c x).clock ≡ x.clock
     begun_clock x = at_keeps (λ z. z.clock) p (λ z. begun_part z c) x refl
 
-    begun_me : (x : PeerPart) → (with_begin p c x).me ≡ x.me
+    pub begun_me : (x : PeerPart) → (with_begin p c x).me ≡ x.me
     begun_me x = at_keeps (λ z. z.me) p (λ z. begun_part z c) x refl
 
     live_stays : (x : PeerPart) (j : ℕ) → is_live (node_at x j).state ≡ true → (node_at (with_begin p c x) j).state ≡ (node_at x j).state

@@ -155,12 +155,12 @@ module _ (s : Letter) (ds : Answered) (stamp : ℕ) (slots : ℕ → List Slot) 
 
   -- ---- the clock
 
-  clock_before : after_attaches.clock ≡ y.clock
+  pub clock_before : after_attaches.clock ≡ y.clock
   clock_before =
       attaches_view (λ z. z.clock) (λ dest node x. at_keeps (λ z. z.clock) node.owner (λ z. attached z node.serial dest) x (kept_attached (λ z. z.clock) (λ z nodes queue late. refl) (attach_answer x node.serial dest) x node.serial dest))
       ∙ over_keeps (λ z. z.clock) (stage_at s) (λ place to x. at_keeps (λ z. z.clock) to.owner (λ z. staged z s.origin s.user place to.serial s.payload s.with) x refl) 0 ds y
 
-  me_before : after_attaches.me ≡ y.me
+  pub me_before : after_attaches.me ≡ y.me
   me_before =
       attaches_view (λ z. z.me) attach_me
       ∙ over_keeps (λ z. z.me) (stage_at s) (λ place to x. at_keeps (λ z. z.me) to.owner (λ z. staged z s.origin s.user place to.serial s.payload s.with) x refl) 0 ds y

@@ -18,3 +18,4 @@ mod Begin
 mod Facts
 mod Boxes
 mod Stamps
+mod Sent

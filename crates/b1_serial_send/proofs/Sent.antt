@@ -1,0 +1,213 @@
+-- A SEND that some destination accepted, from its last stage on to its end at rest.
+use Rattle.std.proofs.Common.{◌≡◌, ◌⊎◌, refl, sym, ap, ap₂, ◌∙◌, subst, inl, inr, ℕ, zero, suc, ◌+◌, ◌<◌, ◌≤◌, ◌==◌, ◌&&◌, ◌%◌, max, Bool, true, false, cond, nat_lt, List, [], ◌∷◌, ◌++◌, map, fold, filter_map, length, set, zip, get_or, Option, Some, None, arith}
+use Rattle.std.specs.Prelude.{slice_get}
+use Rattle.std.proofs.lemmas.Bool.{lt-ltb, eq-eqb, eqb-true, false_from_ne_true}
+use Rattle.std.proofs.lemmas.Option.{same_Some, get_or_from_slice_get}
+use Rattle.b1_model.specs.declared.naming.Key.{Key}
+use Rattle.b1_model.specs.declared.naming.NodeRef.{NodeRef}
+use Rattle.b1_model.specs.declared.naming.Opening.{Opening}
+use Rattle.b1_model.specs.Opening.{IsOpening}
+use Rattle.b1_model.specs.declared.commands.Command.TheVariants as cmd
+use Rattle.b1_model.specs.declared.commands.SendCmd.{SendCmd}
+use Rattle.b1_model.specs.declared.parts.Begun.{Begun}
+use Rattle.b1_model.specs.declared.parts.Slot.{Slot}
+use Rattle.b1_model.specs.declared.entries.Entry.{Entry}
+use Rattle.b1_model.specs.declared.answers.Answer.TheVariants as ans
+use Rattle.b1_model.specs.declared.answers.Reason.{Reason}
+use Rattle.b1_model.specs.declared.events.Phase.{Phase}
+use Rattle.b1_model.specs.declared.events.Phase.TheVariants.{Starting, Attaching, Stamping}
+use Rattle.b1_model.specs.declared.events.Sending.{Sending}
+use Rattle.b1_model.specs.MachineParts.{PeerPart, DriverPart, State, is_odd, node_at, is_dying}
+use Rattle.b1_model.specs.MachineSend.{staged, final_stamp}
+use Rattle.b1_model.specs.MachineDriver.{Turn, Goes, accepted_from, is_place, attaching, all_staged, syncing}
+use Rattle.b1_model.specs.MachineTook.{ended}
+use Rattle.b1_model.specs.MachineEvents.{user_of}
+use Rattle.b1_model.specs.MachineStep.{Reached}
+use Rattle.b1_schedule.specs.Shortage.{Shortage}
+use Rattle.b1_step.specs.Rights.{Has}
+use Rattle.b1_law.proofs.Reached.{reached_sound}
+use Rattle.b1_serial_bus.specs.Parts.{Part, Bus, at_peer, called}
+use Rattle.b1_serial_bus.specs.Lives.{destroyed_in}
+use Rattle.b1_serial_bus.specs.Letters.{Letter, Places, letter_len, accepted, clock_at}
+use Rattle.b1_serial_bus.specs.Delivery.{slot_for, delivered_from}
+use Rattle.b1_serial_rest.specs.Standing.{part_of, bus_of}
+use Rattle.b1_serial_rest.specs.Rest.{BoxesRight, AtRest}
+use Rattle.b1_serial_rest.proofs.Shown.{boxes_same}
+use Rattle.b1_serial_send.specs.Midway.{Answered, at_part, with_begin, over, stage_at, attach_all, stamp_at, sync_at, commit_at, sending_driver, midway}
+use Rattle.b1_serial_send.proofs.Lists.{over_keeps, zip_len}
+use Rattle.b1_serial_send.proofs.Parts.{at_keeps, at_own, map_same, read_map}
+use Rattle.b1_serial_send.proofs.Goes.{WillEnd}
+use Rattle.b1_serial_send.proofs.Charges.{count_at}
+use Rattle.b1_serial_send.proofs.Staging.{turned_to}
+use Rattle.b1_serial_send.proofs.Attaching.{no_slots, rows, rows_none_done, rows_at, attach_me, attaches_keep, places_attach}
+use Rattle.b1_serial_send.proofs.Attaching as attaching
+use Rattle.b1_serial_send.proofs.Committing.{stamp_goes, syncs_go, commits_go}
+use Rattle.b1_serial_send.proofs.Keys.{IsLast, before_stamp, not_back}
+use Rattle.b1_serial_send.proofs.Copies.{place_key}
+use Rattle.b1_serial_send.proofs.Delivered.{clock_after, read_change, behind, delivered_read}
+use Rattle.b1_serial_send.proofs.Finals.{part_is, found_is}
+use Rattle.b1_serial_send.proofs.Finals as final_part
+use Rattle.b1_serial_send.proofs.Ending.{bus_none, bus_same, at_none, delivered_none, ends_here}
+use Rattle.b1_serial_send.proofs.Boxes.{AreAlive, making_boxes, letter_boxes}
+use Rattle.b1_serial_send.proofs.Stamps.{is_any, any_is, collected_by, collected_once, stamps_same, fold_above, fold_has, count_has, accepted_has, map_has, zip_split}
+use Rattle.b1_serial_send.proofs.Facts.{placed, beside, begun_living, begun_me, begun_clock, begun_quiet, begun_low, begun_odd, begun_releases, begun_bus, begun_there}
+
+-- the clock at the end of the destinations, where it is the stamp at their beginning
+stamp_stays : (q stamp : ℕ) (ds : Answered) → clock_after q stamp ds stamp ≡ stamp
+stamp_stays q stamp [] = refl
+stamp_stays q stamp ((to, Some r) ∷ rest) = stamp_stays q stamp rest
+stamp_stays q stamp ((to, None) ∷ rest) = by (to.owner == q) (stamp_stays q stamp rest)
+  where
+    by : (b : Bool) → clock_after q stamp rest stamp ≡ stamp → clock_after q stamp rest (cond b stamp stamp) ≡ stamp
+    by true same = same
+    by false same = same
+
+rows_empty : (bus : Bus) (tos : List NodeRef) (before : Places) → rows bus [] tos before ≡ map (λ to. []) tos
+rows_empty bus [] before = refl
+rows_empty bus (t ∷ ts) [] = ap (λ rs. [] ∷ rs) (rows_empty bus ts [])
+rows_empty bus (t ∷ ts) (None ∷ rest) = ap (λ rs. [] ∷ rs) (rows_empty bus ts rest)
+rows_empty bus (t ∷ ts) (Some r ∷ rest) = ap (λ rs. [] ∷ rs) (rows_empty bus ts rest)
+
+none_over : (f : ℕ → NodeRef → PeerPart → PeerPart) (tos : List NodeRef) (x : PeerPart) → over f 0 (zip tos []) x ≡ x
+none_over f [] x = refl
+none_over f (t ∷ ts) x = refl
+
+module _ {o : Opening} {s : State} {bus : Bus} (opens : IsOpening o) (reached : Reached o s) (rest : AtRest o s bus) (m : Shortage)
+    (d : DriverPart) (is_driver : slice_get s.drivers d.me ≡ Some d) (x : PeerPart) (is_peer : slice_get s.peers d.me ≡ Some x) (c : SendCmd) (begun : Begun)
+    (final : Places) (len : length final ≡ length begun.to) (any : is_any final ≡ true) where
+  -- the parts with the nodes made, and the serial bus then
+  abbrev f : PeerPart → PeerPart
+  f = with_begin d.me c
+
+  abbrev with_nodes : Bus
+  with_nodes = begun_bus opens reached rest d.me c
+
+  abbrev letter : Letter
+  letter = record { origin = d.me; user = user_of o d.me; to = begun.to; with = begun.with; payload = c.payload }
+
+  abbrev ds : Answered
+  ds = zip begun.to final
+
+  abbrev There : NodeRef → Type 0
+  There to = (z : PeerPart) × (w : DriverPart) × (slice_get s.peers to.owner ≡ Some z) × (slice_get with_nodes to.owner ≡ Some (part_of (f z) w))
+      × (to.serial < length (f z).nodes) × (is_dying (node_at (f z) to.serial).state ≡ false)
+
+  abbrev owners : List ℕ
+  owners = map (clock_at with_nodes) (accepted letter final)
+
+  abbrev first : ℕ
+  first = fold max 0 owners
+
+  abbrev voids : List ℕ
+  voids = filter_map (destroyed_in with_nodes) begun.with
+
+  -- the SEND with all its slots
+  abbrev sending : Sending
+  sending = record { begun = begun; places = final; collected = collected_by voids first final; slots = rows with_nodes begun.with begun.to final }
+
+  abbrev staged_part : PeerPart → PeerPart
+  staged_part y = over (stage_at letter) 0 ds (f y)
+
+  abbrev attached_part : PeerPart → PeerPart
+  attached_part y = over (attach_all begun.with) 0 ds (staged_part y)
+
+  abbrev stamp : ℕ
+  stamp = final_stamp (attached_part x) sending.collected
+
+  abbrev slots : ℕ → List Slot
+  slots q = map (slot_for with_nodes q) begun.with
+
+  abbrev last_part : PeerPart → PeerPart
+  last_part y = over (commit_at d.me stamp slots) 0 ds (over (sync_at stamp) 0 ds (stamp_at d.me stamp (attached_part y)))
+
+  -- the bus after it
+  abbrev pub target : Bus
+  target = at_peer d.me (λ y. called (cmd.Send c) (ans.Sent (record { stamp = stamp; places = final })) (record y { clock = stamp })) (delivered_from letter stamp 0 ds with_nodes)
+
+  -- ---- the stamp
+
+  attached_clock : (y : PeerPart) → (attached_part y).clock ≡ (f y).clock
+  attached_clock y = final_part.clock_before letter ds 0 slots (f y)
+
+  pub stamp_is : stamp ≡ fold max (f x).clock (owners ++ voids) + 2
+  stamp_is =
+      ap₂ (λ k j. max k j + 2) (attached_clock x) (collected_once voids first final any)
+      ∙ ap (λ k. k + 2) (stamps_same (f x).clock owners voids)
+
+  clock_there : (to : NodeRef) (z : Part) → slice_get with_nodes to.owner ≡ Some z → clock_at with_nodes to ≡ z.clock
+  clock_there to z is = ap (λ r. elim r [ None ↦ 0 | Some y ↦ y.clock ]) is
+
+  -- it is above the clock of each peer that accepted
+  high : (q : ℕ) (y : PeerPart) (w : DriverPart) → slice_get s.peers q ≡ Some y → slice_get s.drivers q ≡ Some w → 1 ≤ count_at q ds → (f y).clock + 2 ≤ stamp
+  high q y w is is_w some =
+      let k = count_has q ds some in
+      let same : clock_at with_nodes k.0 ≡ (f y).clock = clock_there k.0 (part_of (f y) w) (ap (slice_get with_nodes) k.2 ∙ begun_there opens reached rest d.me c q y w is is_w) in
+      let below = fold_has 0 owners (clock_at with_nodes k.0) (map_has (clock_at with_nodes) (accepted letter final) k.0 (accepted_has ds k.0 k.1)) in
+      let above = fold_above first voids in
+      let collected = collected_once voids first final any in
+      omega (arith, same, below, above, collected)
+
+  -- ---- the end
+
+  me_of : (q : ℕ) (y : PeerPart) → slice_get s.peers q ≡ Some y → (f y).me ≡ q
+  me_of q y is = begun_me opens reached rest d.me c y ∙ placed opens reached rest q y is
+
+  module _ (even : is_odd stamp ≡ false) where
+    abbrev driver_last : DriverPart
+    driver_last = ended (sending_driver d c Starting) (cmd.Send c) (ans.Sent (record { stamp = stamp; places = final }))
+
+    last_if : (q : ℕ) (y : PeerPart) (w : DriverPart) → slice_get s.peers q ≡ Some y → slice_get s.drivers q ≡ Some w → 1 ≤ count_at q ds → IsLast (place_key letter stamp 0) (f y).queue
+    last_if q y w is is_w some g there =
+        not_back g.0 (place_key letter stamp 0) (before_stamp g.0 (place_key letter stamp 0)
+        (let l = begun_low opens reached rest d.me c q y is g there in let h = high q y w is is_w some in omega (arith, l, h)))
+
+    module _ (q : ℕ) (y : PeerPart) (w : DriverPart) (is : slice_get s.peers q ≡ Some y) (is_w : slice_get s.drivers q ≡ Some w) where
+      abbrev shown_here : DriverPart → Part
+      shown_here v = record (behind letter stamp with_nodes q 0 ds (part_of (f y) v)) { clock = clock_after q stamp ds (cond (d.me == q) stamp (f y).clock) }
+
+      last_is : (v : DriverPart) → part_of (last_part y) v ≡ shown_here v
+      last_is v =
+          part_is letter ds stamp slots (f y) (begun_quiet opens reached rest d.me c q y is) (begun_low opens reached rest d.me c q y is) (begun_releases opens reached rest d.me c q y is) (begun_odd opens reached rest d.me c q y is) even
+          (λ some. high q y w is is_w (subst (λ k. 1 ≤ count_at k ds) (me_of q y is) some)) v
+          ∙ ap (λ k. record (behind letter stamp with_nodes k 0 ds (part_of (f y) v)) { clock = clock_after k stamp ds (cond (d.me == k) stamp (f y).clock) }) (me_of q y is)
+
+      own_read : slice_get target q ≡ Some (part_of (last_part y) (cond (d.me == q) driver_last w))
+      own_read =
+          read_change d.me q (λ z. called (cmd.Send c) (ans.Sent (record { stamp = stamp; places = final })) (record z { clock = stamp })) (delivered_from letter stamp 0 ds with_nodes) (behind letter stamp with_nodes q 0 ds (part_of (f y) w))
+          (delivered_read letter stamp with_nodes q ds 0 with_nodes (part_of (f y) w) (begun_there opens reached rest d.me c q y w is is_w) (λ n. refl) (last_if q y w is is_w))
+          ∙ ap Some (by (d.me == q) refl)
+        where
+          by : (b : Bool) → d.me == q ≡ b
+              → cond b (called (cmd.Send c) (ans.Sent (record { stamp = stamp; places = final })) (record (behind letter stamp with_nodes q 0 ds (part_of (f y) w)) { clock = stamp })) (behind letter stamp with_nodes q 0 ds (part_of (f y) w))
+              ≡ part_of (last_part y) (cond b driver_last w)
+          by true own =
+              let driver_is : w ≡ d = same_Some w d (sym is_w ∙ ap (slice_get s.drivers) (sym (eqb-true d.me q own)) ∙ is_driver) in
+              ap (λ v. called (cmd.Send c) (ans.Sent (record { stamp = stamp; places = final })) (record (behind letter stamp with_nodes q 0 ds (part_of (f y) v)) { clock = stamp })) driver_is
+              ∙ ap (λ k. called (cmd.Send c) (ans.Sent (record { stamp = stamp; places = final })) (record (behind letter stamp with_nodes q 0 ds (part_of (f y) d)) { clock = k })) (sym (ap (λ b. clock_after q stamp ds (cond b stamp (f y).clock)) own ∙ stamp_stays q stamp ds))
+              ∙ ap (called (cmd.Send c) (ans.Sent (record { stamp = stamp; places = final }))) (sym (last_is d))
+          by false other = sym (last_is w ∙ ap (λ b. record (behind letter stamp with_nodes q 0 ds (part_of (f y) w)) { clock = clock_after q stamp ds (cond b stamp (f y).clock) }) other)
+
+    none_read : (q : ℕ) → slice_get (bus_of s) q ≡ None → slice_get target q ≡ None
+    none_read q none =
+        at_none d.me q _ (delivered_from letter stamp 0 ds with_nodes) (delivered_none letter stamp 0 ds q with_nodes (at_none d.me q _ bus (ap (λ b. slice_get b q) rest.is_bus ∙ none)))
+
+    -- the boxes of the bus after it
+    target_boxes : AreAlive with_nodes ds → BoxesRight target
+    target_boxes alive =
+        boxes_same (λ y. called (cmd.Send c) (ans.Sent (record { stamp = stamp; places = final })) (record y { clock = stamp })) (λ y. refl) (delivered_from letter stamp 0 ds with_nodes) d.me
+        (letter_boxes letter stamp with_nodes ds (making_boxes d.me c.with bus rest.boxes) alive numbered last)
+      where
+        part_there : (q : ℕ) (z : Part) → slice_get with_nodes q ≡ Some z → (y : PeerPart) × (w : DriverPart) × (slice_get s.peers q ≡ Some y) × (slice_get s.drivers q ≡ Some w) × (z ≡ part_of (f y) w)
+        part_there q z is = by (slice_get s.peers q) refl
+          where
+            by : (r : Option PeerPart) → slice_get s.peers q ≡ r → (y : PeerPart) × (w : DriverPart) × (slice_get s.peers q ≡ Some y) × (slice_get s.drivers q ≡ Some w) × (z ≡ part_of (f y) w)
+            by None none = absurd (cc (sym (at_none d.me q _ bus (ap (λ b. slice_get b q) rest.is_bus ∙ bus_none s q none)) ∙ is))
+            by (Some y) there =
+                let w = beside opens reached rest q y there in
+                (y, w.0, there, w.1, same_Some z (part_of (f y) w.0) (sym is ∙ begun_there opens reached rest d.me c q y w.0 there w.1))
+
+        numbered : (q : ℕ) (z : Part) → slice_get with_nodes q ≡ Some z → z.me ≡ q
+        numbered q z is = let k = part_there q z is in ap (λ v. v.me) k.4 ∙ me_of q k.0 k.2
+
+        last : (q : ℕ) (z : Part) → slice_get with_nodes q ≡ Some z → 1 ≤ count_at q ds → IsLast (place_key letter stamp 0) z.box
+        last q z is some = let k = part_there q z is in subst (IsLast (place_key letter stamp 0)) (sym (ap (λ v. v.box) k.4)) (last_if q k.0 k.1 k.2 k.3 some)
