@@ -15,16 +15,17 @@ use Rattle.b1_model.specs.declared.entries.Entry.{Entry}
 use Rattle.b1_model.specs.declared.answers.Answer.TheVariants as ans
 use Rattle.b1_model.specs.declared.answers.Reason.{Reason}
 use Rattle.b1_model.specs.declared.events.Phase.{Phase}
-use Rattle.b1_model.specs.declared.events.Phase.TheVariants.{Starting, Attaching, Stamping}
+use Rattle.b1_model.specs.declared.events.Phase.TheVariants.{Starting, Attaching, Stamping, Committing}
 use Rattle.b1_model.specs.declared.events.Sending.{Sending}
-use Rattle.b1_model.specs.MachineParts.{PeerPart, DriverPart, State, is_odd, node_at, is_dying}
-use Rattle.b1_model.specs.MachineSend.{staged, final_stamp}
+use Rattle.b1_model.specs.MachineParts.{PeerPart, DriverPart, State, no_node, is_odd, node_at, is_dying}
+use Rattle.b1_model.specs.MachineSend.{staged, synced, is_committed, final_stamp}
 use Rattle.b1_model.specs.MachineDriver.{Turn, Goes, accepted_from, is_place, attaching, all_staged, syncing}
 use Rattle.b1_model.specs.MachineTook.{ended}
 use Rattle.b1_model.specs.MachineEvents.{user_of}
 use Rattle.b1_model.specs.MachineStep.{Reached}
 use Rattle.b1_schedule.specs.Shortage.{Shortage}
 use Rattle.b1_step.specs.Rights.{Has}
+use Rattle.b1_step.proofs.Lists.{has_at}
 use Rattle.b1_law.proofs.Reached.{reached_sound}
 use Rattle.b1_serial_bus.specs.Parts.{Part, Bus, at_peer, called}
 use Rattle.b1_serial_bus.specs.Lives.{destroyed_in}
@@ -33,14 +34,13 @@ use Rattle.b1_serial_bus.specs.Delivery.{slot_for, delivered_from}
 use Rattle.b1_serial_rest.specs.Standing.{part_of, bus_of}
 use Rattle.b1_serial_rest.specs.Rest.{BoxesRight, AtRest}
 use Rattle.b1_serial_rest.proofs.Shown.{boxes_same}
-use Rattle.b1_serial_send.specs.Midway.{Answered, at_part, with_begin, over, stage_at, attach_all, stamp_at, sync_at, commit_at, sending_driver, midway}
+use Rattle.b1_serial_send.specs.Midway.{Answered, at_part, with_begin, over, stage_at, attach_at, attach_all, stamp_at, sync_at, commit_at, sending_driver, midway}
 use Rattle.b1_serial_send.proofs.Lists.{over_keeps, zip_len}
 use Rattle.b1_serial_send.proofs.Parts.{at_keeps, at_own, map_same, read_map}
 use Rattle.b1_serial_send.proofs.Goes.{WillEnd}
 use Rattle.b1_serial_send.proofs.Charges.{count_at}
 use Rattle.b1_serial_send.proofs.Staging.{turned_to}
 use Rattle.b1_serial_send.proofs.Attaching.{no_slots, rows, rows_none_done, rows_at, attach_me, attaches_keep, places_attach}
-use Rattle.b1_serial_send.proofs.Attaching as attaching
 use Rattle.b1_serial_send.proofs.Committing.{stamp_goes, syncs_go, commits_go}
 use Rattle.b1_serial_send.proofs.Keys.{IsLast, before_stamp, not_back}
 use Rattle.b1_serial_send.proofs.Copies.{place_key}
@@ -211,3 +211,105 @@ module _ {o : Opening} {s : State} {bus : Bus} (opens : IsOpening o) (reached : 
 
         last : (q : ℕ) (z : Part) → slice_get with_nodes q ≡ Some z → 1 ≤ count_at q ds → IsLast (place_key letter stamp 0) z.box
         last q z is some = let k = part_there q z is in subst (IsLast (place_key letter stamp 0)) (sym (ap (λ v. v.box) k.4)) (last_if q k.0 k.1 k.2 k.3 some)
+
+  -- ---- the steps
+
+  abbrev At : (PeerPart → PeerPart) → Turn → Type 0
+  At h turn = WillEnd o m d.me target (midway s d.me (turned_to d c turn) h)
+
+  staged_me : (y : PeerPart) → (staged_part y).me ≡ y.me
+  staged_me y =
+      over_keeps (λ z. z.me) (stage_at letter) (λ place to z. at_keeps (λ v. v.me) to.owner (λ v. staged v d.me (user_of o d.me) place to.serial c.payload begun.with) z refl) 0 ds (f y)
+      ∙ begun_me opens reached rest d.me c y
+
+  staged_nodes : (y : PeerPart) → (staged_part y).nodes ≡ (f y).nodes
+  staged_nodes y = over_keeps (λ z. z.nodes) (stage_at letter) (λ place to z. at_keeps (λ v. v.nodes) to.owner (λ v. staged v d.me (user_of o d.me) place to.serial c.payload begun.with) z refl) 0 ds (f y)
+
+  attached_me : (y : PeerPart) → (attached_part y).me ≡ y.me
+  attached_me y = over_keeps (λ z. z.me) (attach_all begun.with) (λ place to z. attaches_keep (λ v. v.me) attach_me to.owner begun.with z) 0 ds (staged_part y) ∙ staged_me y
+
+  stamped_me : (y : PeerPart) → (stamp_at d.me stamp (attached_part y)).me ≡ y.me
+  stamped_me y = at_keeps (λ z. z.me) d.me (λ z. record z { clock = stamp }) (attached_part y) refl ∙ attached_me y
+
+  synced_me : (y : PeerPart) → (over (sync_at stamp) 0 ds (stamp_at d.me stamp (attached_part y))).me ≡ y.me
+  synced_me y = over_keeps (λ z. z.me) (sync_at stamp) (λ place to z. at_keeps (λ v. v.me) to.owner (λ v. synced v stamp) z refl) 0 ds (stamp_at d.me stamp (attached_part y)) ∙ stamped_me y
+
+  module _ (destinations : (to : NodeRef) → Has begun.to to → There to) (alive : AreAlive with_nodes ds) where
+    place_there : (before : Places) (to : NodeRef) → slice_get begun.to (length before) ≡ Some to → There to
+    place_there before to is_to = destinations to (has_at begun.to (length before) to is_to)
+
+    -- the commits, with an even stamp
+    commits : is_odd stamp ≡ false → At (λ y. over (sync_at stamp) 0 ds (stamp_at d.me stamp (attached_part y))) (Goes (Committing sending stamp (accepted_from 0 final)))
+    commits even =
+        commits_go o m d.me target s d c sending (placed opens reached rest) is_driver len stamp (λ y. over (sync_at stamp) 0 ds (stamp_at d.me stamp (attached_part y))) synced_me slots owner
+        (ends_here o m d.me target s d opens rest.quiet is_driver (driver_last even) last_part refl
+        (bus_same s d.me (driver_last even) last_part target (λ q y w is is_w. own_read even q y w is is_w) (none_read even)) (target_boxes even alive))
+      where
+        owner : (before more : Places) (to : NodeRef) → final ≡ before ++ None ∷ more → slice_get begun.to (length before) ≡ Some to
+            → (z : PeerPart) × (slice_get s.peers to.owner ≡ Some z)
+            × (is_committed (over (commit_at d.me stamp slots) 0 (zip begun.to before) (over (sync_at stamp) 0 ds (stamp_at d.me stamp (attached_part z)))) d.me (length before) ≡ true)
+            × (get_or (rows with_nodes begun.with begun.to final) (length before) [] ≡ slots to.owner)
+        owner before more to all is_to =
+            let there = place_there before to is_to in
+            let split = zip_split begun.to before None more to is_to in
+            let y = there.0 in
+            (y, there.2,
+            ap (λ i. is_committed (over (commit_at d.me stamp slots) 0 (zip begun.to before) (over (sync_at stamp) 0 ds (stamp_at d.me stamp (attached_part y)))) d.me i) (sym (zip_len begun.to before to is_to))
+            ∙ found_is letter ds stamp slots (f y) (begun_quiet opens reached rest d.me c to.owner y there.2) (begun_low opens reached rest d.me c to.owner y there.2) (begun_releases opens reached rest d.me c to.owner y there.2) (begun_odd opens reached rest d.me c to.owner y there.2) even
+            (λ some. high to.owner y (beside opens reached rest to.owner y there.2).0 there.2 (beside opens reached rest to.owner y there.2).1 (subst (λ k. 1 ≤ count_at k ds) (me_of to.owner y there.2) some))
+            (zip begun.to before) split.0 to (ap (zip begun.to) all ∙ split.1) (sym (me_of to.owner y there.2)),
+            ap (λ zs. get_or (rows with_nodes begun.with begun.to zs) (length before) []) all ∙ rows_at with_nodes begun.with begun.to before more to is_to)
+
+    -- from the stamp on
+    stamps : At attached_part (Goes (Stamping sending))
+    stamps =
+        stamp_goes o m d.me target s d c sending (placed opens reached rest) is_driver len attached_part attached_me refl x is_peer
+        (λ led. syncs_go o m d.me target s d c sending (placed opens reached rest) is_driver len stamp (λ y. stamp_at d.me stamp (attached_part y)) stamped_me
+        (λ before more to all is_to. let there = place_there before to is_to in (there.0, there.2))
+        (commits (even led)) led)
+      where
+        even : Reached o (midway s d.me (turned_to d c (Goes (syncing sending stamp (accepted_from 0 final)))) (λ y. stamp_at d.me stamp (attached_part y))) → is_odd stamp ≡ false
+        even led =
+            let sound = reached_sound o (midway s d.me (turned_to d c (Goes (syncing sending stamp (accepted_from 0 final)))) (λ y. stamp_at d.me stamp (attached_part y))) opens led in
+            let there = read_map (λ y. stamp_at d.me stamp (attached_part y)) s.peers d.me x is_peer in
+            let clock : (stamp_at d.me stamp (attached_part x)).clock ≡ stamp = ap (λ z. z.clock) (at_own d.me (λ z. record z { clock = stamp }) (attached_part x) (attached_me x ∙ placed opens reached rest d.me x is_peer)) in
+            ap (λ k. k == 1) (sym (ap (λ k. k % 2) clock) ∙ (sound.clocks.clock d.me (stamp_at d.me stamp (attached_part x)) there).0)
+
+    -- from the attaches on
+    pub sent_ends : ((node : NodeRef) → Has begun.with node → There node) → At staged_part (Goes (attaching (all_staged begun final first) (accepted_from 0 final) 0))
+    sent_ends carried = by begun.with refl
+      where
+        start : Sending
+        start = all_staged begun final first
+
+        same_parts : (h j : PeerPart → PeerPart) (turn : Turn) → ((y : PeerPart) → h y ≡ j y) → At h turn → At j turn
+        same_parts h j turn same = subst (λ xs. WillEnd o m d.me target (record { peers = xs; drivers = set s.drivers d.me (turned_to d c turn) })) (map_same h j s.peers same)
+
+        by : (w : List NodeRef) → begun.with ≡ w → At staged_part (Goes (attaching start (accepted_from 0 final) 0))
+        by [] nil =
+            subst (λ b. At staged_part (Goes (cond b (Attaching start (accepted_from 0 final) 0) (cond (b && is_place (accepted_from (accepted_from 0 final + 1) final) final) (Attaching start (accepted_from (accepted_from 0 final + 1) final) 0) (Stamping start))))) (sym (ap (λ w. nat_lt 0 (length w)) nil))
+            (subst (λ z. At staged_part (Goes (Stamping z))) (sym start_is)
+            (same_parts attached_part staged_part (Goes (Stamping sending)) nothing stamps))
+          where
+            nothing : (y : PeerPart) → attached_part y ≡ staged_part y
+            nothing y = over_keeps (λ z. z) (attach_all begun.with) (λ place to z. ap (λ w. fold (λ v node. attach_at to.owner node v) z w) nil) 0 ds (staged_part y)
+
+            start_is : start ≡ sending
+            start_is = ap₂ (λ k sl. record { begun = begun; places = final; collected = k; slots = sl })
+                (sym (collected_once voids first final any ∙ ap (λ w. fold max first (filter_map (destroyed_in with_nodes) w)) nil))
+                (ap (λ w. map (λ to. no_slots w) begun.to) nil ∙ sym (ap (λ w. rows with_nodes w begun.to final) nil ∙ rows_empty with_nodes begun.to final))
+        by (n ∷ ns) more =
+            subst (λ b. At staged_part (Goes (cond b (Attaching start (accepted_from 0 final) 0) (cond (b && is_place (accepted_from (accepted_from 0 final + 1) final) final) (Attaching start (accepted_from (accepted_from 0 final + 1) final) 0) (Stamping start))))) (sym (lt-ltb 0 (length begun.with) some))
+            (subst (λ z. At staged_part (Goes (Attaching z (accepted_from 0 final) 0))) (sym start_is)
+            (subst (λ b. At staged_part (Goes (cond b (Attaching none_yet (accepted_from 0 final) 0) (Stamping none_yet)))) (any_is final ∙ any)
+            (same_parts (λ y. over (attach_all begun.with) 0 (zip begun.to []) (staged_part y)) staged_part (Goes (cond (is_place (accepted_from 0 final) final) (Attaching none_yet (accepted_from 0 final) 0) (Stamping none_yet))) (λ y. none_over (attach_all begun.with) begun.to (staged_part y))
+            (places_attach o m d.me target s d c begun (placed opens reached rest) is_driver f with_nodes staged_part staged_me (λ y j. ap (λ zs. (get_or zs j no_node).state) (staged_nodes y)) final len first some carried stamps final [] refl))))
+          where
+            some : 0 < length begun.with
+            some = let e = ap length more in omega (arith, e)
+
+            none_yet : Sending
+            none_yet = record { begun = begun; places = final; collected = first; slots = rows with_nodes begun.with begun.to [] }
+
+            start_is : start ≡ none_yet
+            start_is = ap (λ sl. record { begun = begun; places = final; collected = first; slots = sl }) (rows_none_done with_nodes begun.with begun.to)
