@@ -19,3 +19,4 @@ mod Facts
 mod Boxes
 mod Stamps
 mod Sent
+mod RefusedEnd
