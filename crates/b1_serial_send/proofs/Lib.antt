@@ -20,3 +20,4 @@ mod Boxes
 mod Stamps
 mod Sent
 mod RefusedEnd
+mod Assembled
