@@ -21,3 +21,4 @@ mod Stamps
 mod Sent
 mod RefusedEnd
 mod Assembled
+mod Runs
