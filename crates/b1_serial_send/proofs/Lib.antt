@@ -22,3 +22,4 @@ mod Sent
 mod RefusedEnd
 mod Assembled
 mod Runs
+mod Pools
