@@ -23,3 +23,4 @@ mod RefusedEnd
 mod Assembled
 mod Runs
 mod Pools
+mod Unstaging

@@ -9,7 +9,7 @@ use Rattle.b1_model.specs.declared.parts.Slot.{Slot}
 use Rattle.b1_model.specs.declared.answers.Reason.{Reason}
 use Rattle.b1_model.specs.declared.events.Phase.{Phase}
 use Rattle.b1_model.specs.MachineParts.{PeerPart, DriverPart, State}
-use Rattle.b1_model.specs.MachineSend.{begun_part, staged, attached, synced, committed}
+use Rattle.b1_model.specs.MachineSend.{begun_part, staged, unstaged, attached, synced, committed}
 use Rattle.b1_serial_bus.specs.Letters.{Letter}
 
 -- ---- at which part an event is
@@ -38,6 +38,10 @@ with_begin p c x = at_part p (λ y. begun_part y c) x
 abbrev pub stage_at : Letter → ℕ → NodeRef → PeerPart → PeerPart
 stage_at s place to x =
     at_part to.owner (λ y. staged y s.origin s.user place to.serial s.payload s.with) x
+
+-- what was staged at a place is taken back
+abbrev pub unstage_at : ℕ → ℕ → NodeRef → PeerPart → PeerPart
+unstage_at p place to x = at_part to.owner (λ y. unstaged y p place) x
 
 -- a carried node is attached for a destination
 abbrev pub attach_at : ℕ → NodeRef → PeerPart → PeerPart

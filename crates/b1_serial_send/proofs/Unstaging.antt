@@ -1,0 +1,150 @@
+-- A SEND that is refused at a place without CONTINUE takes back what it staged.
+use Rattle.std.proofs.Common.{◌≡◌, ◌⊎◌, refl, sym, ap, ap₂, ◌∙◌, subst, inl, inr, ℕ, zero, suc, ◌+◌, ◌<◌, ◌≤◌, ◌==◌, ◌&&◌, ◌||◌, ◌-◌, nat_lt, Bool, true, false, cond, List, [], ◌∷◌, ◌++◌, map, fold, find, length, set, zip, get_or, Option, Some, None, is_some, arith}
+use Rattle.std.specs.Prelude.{slice_get}
+use Rattle.std.proofs.lemmas.Bool.{eqb-true, eq-eqb, ne_eqb, lt-ltb, and_right}
+use Rattle.std.proofs.lemmas.List.{length-append, append-nil}
+use Rattle.std.proofs.lemmas.Option.{get_or_from_slice_get, slice_get-get_or}
+use Rattle.b1_model.specs.declared.naming.Key.{Key}
+use Rattle.b1_model.specs.declared.naming.NodeRef.{NodeRef}
+use Rattle.b1_model.specs.declared.naming.Opening.{Opening}
+use Rattle.b1_model.specs.declared.commands.Command.TheVariants as cmd
+use Rattle.b1_model.specs.declared.commands.SendCmd.{SendCmd}
+use Rattle.b1_model.specs.declared.parts.Begun.{Begun}
+use Rattle.b1_model.specs.declared.parts.Slot.{Slot}
+use Rattle.b1_model.specs.declared.entries.Entry.{Entry}
+use Rattle.b1_model.specs.declared.answers.Answer.TheVariants as ans
+use Rattle.b1_model.specs.declared.answers.Reason.{Reason}
+use Rattle.b1_model.specs.declared.answers.Refused.{Refused}
+use Rattle.b1_model.specs.declared.events.Phase.TheVariants.{Starting, Unstaging}
+use Rattle.b1_model.specs.MachineParts.{PeerPart, DriverPart, HandleRecord, Slice, State, is_odd, carried, same_ref}
+use Rattle.b1_model.specs.MachinePool.{taken}
+use Rattle.b1_model.specs.MachineTables.{without, is_stage, foreign, expected, unexpected, changed, changed_or_made, is_needed, more_flight, less_flight}
+use Rattle.b1_model.specs.MachineSend.{staged, find_stage, unstaged_by, unstaged}
+use Rattle.b1_model.specs.MachineDriver.{Turn, Goes, no_ref, node_of_place, accepted_from, is_place, unstaging}
+use Rattle.b1_model.specs.MachineDriver as driver
+use Rattle.b1_model.specs.MachineTook.{ended}
+use Rattle.b1_schedule.specs.Shortage.{Shortage}
+use Rattle.b1_step.specs.Rights.{Has}
+use Rattle.b1_inv_refs.proofs.Numbered.{EachRecord, each_changed, each_made}
+use Rattle.b1_serial_bus.specs.Parts.{Part, Bus}
+use Rattle.b1_serial_bus.specs.Letters.{Letter, Places, letter_len}
+use Rattle.b1_serial_rest.specs.Standing.{with_line, lines_of, part_of}
+use Rattle.b1_serial_send.specs.Midway.{Answered, over, at_part, stage_at, unstage_at, sending_driver, midway}
+use Rattle.b1_serial_send.proofs.Lists.{over_keeps, over_one, over_none}
+use Rattle.b1_serial_send.proofs.Parts.{Placed, at_keeps, map_same}
+use Rattle.b1_serial_send.proofs.Goes.{WillEnd, goes}
+use Rattle.b1_serial_send.proofs.Accepted.{accepted_here, refused_here, none_left, place_here}
+use Rattle.b1_serial_send.proofs.Staging.{turned_to, turned_so}
+use Rattle.b1_serial_send.proofs.Committing.{places_back}
+use Rattle.b1_serial_send.proofs.Keys.{NonePass, find_past, without_one}
+use Rattle.b1_serial_send.proofs.Copies.{place_key, copy, copies, copies_all}
+use Rattle.b1_serial_send.proofs.Finals.{bare, lines_expected}
+
+-- ---- one part
+
+-- what an unstage leaves
+kept_found : {Y : Type 0} (view : PeerPart → Y) → ((x : PeerPart) (queue : List (Key × Entry)) (slices : List Slice) (handles : List HandleRecord) → view (record x { queue = queue; slices = slices; handles = handles }) ≡ view x)
+    → (found : Option (Key × Entry)) (x : PeerPart) (origin index : ℕ) → view (unstaged_by found x origin index) ≡ view x
+kept_found view keeps None x origin index = refl
+kept_found view keeps (Some f) x origin index = keeps x _ _ _
+
+pub unstage_keeps : {Y : Type 0} (view : PeerPart → Y) → ((x : PeerPart) (queue : List (Key × Entry)) (slices : List Slice) (handles : List HandleRecord) → view (record x { queue = queue; slices = slices; handles = handles }) ≡ view x)
+    → (p place : ℕ) (to : NodeRef) (x : PeerPart) → view (unstage_at p place to x) ≡ view x
+unstage_keeps view keeps p place to x = at_keeps view to.owner (λ y. unstaged y p place) x (kept_found view keeps (find_stage x p place) x p place)
+
+-- ---- the lines
+
+-- a record with a number is held
+abbrev pub IsHeld : HandleRecord → Type 0
+IsHeld h = (k : ℕ) → h.number ≡ Some k → 1 ≤ h.held
+
+line_same : (r : Option ℕ) (h : HandleRecord) (rest : List HandleRecord) → with_line r (less_flight h) (lines_of rest) ≡ with_line r h (lines_of rest)
+line_same None h rest = refl
+line_same (Some number) h rest = refl
+
+one_unexpected : (node : NodeRef) (hs : List HandleRecord) → EachRecord IsHeld hs → lines_of (changed node less_flight hs) ≡ lines_of hs
+one_unexpected node [] held = refl
+one_unexpected node (h ∷ rest) held = by (same_ref h.node node) (one_unexpected node rest (λ g there. held g (inr there)))
+  where
+    gone_line : (r : Option ℕ) → h.number ≡ r → is_needed (less_flight h) ≡ false → lines_of rest ≡ with_line r h (lines_of rest)
+    gone_line None is none = refl
+    gone_line (Some k) is none =
+        let positive = held h (inl refl) k is in
+        absurd (cc (sym (ap (λ b. b || nat_lt 0 (h.flight - 1) || h.notice) (lt-ltb 0 h.held positive)) ∙ none))
+
+    own : (b : Bool) → is_needed (less_flight h) ≡ b → lines_of (cond b (less_flight h ∷ rest) rest) ≡ with_line h.number h (lines_of rest)
+    own true needed = line_same h.number h rest
+    own false none = gone_line h.number refl none
+
+    by : (b : Bool) → lines_of (changed node less_flight rest) ≡ lines_of rest → lines_of (cond b (cond (is_needed (less_flight h)) (less_flight h ∷ rest) rest) (h ∷ changed node less_flight rest)) ≡ lines_of (h ∷ rest)
+    by true further = own (is_needed (less_flight h)) refl
+    by false further = ap (with_line h.number h) further
+
+unexpected_held : (nodes : List NodeRef) (hs : List HandleRecord) → EachRecord IsHeld hs → EachRecord IsHeld (unexpected nodes hs)
+unexpected_held [] hs held = held
+unexpected_held (n ∷ rest) hs held = unexpected_held rest (changed n less_flight hs) (each_changed IsHeld n less_flight (λ h still. still) hs held)
+
+lines_unexpected : (nodes : List NodeRef) (hs : List HandleRecord) → EachRecord IsHeld hs → lines_of (unexpected nodes hs) ≡ lines_of hs
+lines_unexpected [] hs held = refl
+lines_unexpected (n ∷ rest) hs held = lines_unexpected rest (changed n less_flight hs) (each_changed IsHeld n less_flight (λ h still. still) hs held) ∙ one_unexpected n hs held
+
+expected_held : (nodes : List NodeRef) (hs : List HandleRecord) → EachRecord IsHeld hs → EachRecord IsHeld (expected nodes hs)
+expected_held [] hs held = held
+expected_held (n ∷ rest) hs held = expected_held rest (changed_or_made n more_flight hs) (each_made IsHeld n more_flight (λ h still. still) (λ k none. absurd (cc none)) hs held)
+
+pub stages_held : (s : Letter) (place : ℕ) (ds : Answered) (x : PeerPart) → EachRecord IsHeld x.handles → EachRecord IsHeld (over (stage_at s) place ds x).handles
+stages_held s place [] x held = held
+stages_held s place ((to, Some r) ∷ rest) x held = stages_held s (place + 1) rest x held
+stages_held s place ((to, None) ∷ rest) x held = by (to.owner == x.me) (stages_held s (place + 1) rest)
+  where
+    by : (b : Bool) → ((z : PeerPart) → EachRecord IsHeld z.handles → EachRecord IsHeld (over (stage_at s) (place + 1) rest z).handles) → EachRecord IsHeld (over (stage_at s) (place + 1) rest (cond b (staged x s.origin s.user place to.serial s.payload s.with) x)).handles
+    by true further = further (staged x s.origin s.user place to.serial s.payload s.with) (expected_held (foreign x.me s.with) x.handles held)
+    by false further = further x held
+
+-- what the bus shows of a part, but for clock, slices and queue
+found_bare : (w : DriverPart) (found : Option (Key × Entry)) (x : PeerPart) (origin index : ℕ) → EachRecord IsHeld x.handles → (bare w (unstaged_by found x origin index) ≡ bare w x) × EachRecord IsHeld (unstaged_by found x origin index).handles
+found_bare w None x origin index held = (refl, held)
+found_bare w (Some f) x origin index held = (ap (λ ls. record (bare w x) { lines = ls }) (lines_unexpected (foreign x.me (carried f.1)) x.handles held), unexpected_held (foreign x.me (carried f.1)) x.handles held)
+
+pub unstages_bare : (w : DriverPart) (p place : ℕ) (ds : Answered) (x : PeerPart) → EachRecord IsHeld x.handles → bare w (over (unstage_at p) place ds x) ≡ bare w x
+unstages_bare w p place [] x held = refl
+unstages_bare w p place ((to, Some r) ∷ rest) x held = unstages_bare w p (place + 1) rest x held
+unstages_bare w p place ((to, None) ∷ rest) x held = by (to.owner == x.me) (unstages_bare w p (place + 1) rest)
+  where
+    by : (b : Bool) → ((z : PeerPart) → EachRecord IsHeld z.handles → bare w (over (unstage_at p) (place + 1) rest z) ≡ bare w z) → bare w (over (unstage_at p) (place + 1) rest (cond b (unstaged x p place) x)) ≡ bare w x
+    by true further = let k = found_bare w (find_stage x p place) x p place held in further (unstaged x p place) k.1 ∙ k.0
+    by false further = further x held
+
+-- ---- the queue
+
+pub unstages_queue : (s : Letter) (stamp : ℕ) (none : List Slot) (odd : is_odd stamp ≡ true) (place : ℕ) (ds : Answered) (y : PeerPart) (slices : List Slice) (base : List (Key × Entry))
+    → y.queue ≡ base ++ copies s y.me stamp none place slices ds → ((i : ℕ) → NonePass (is_stage s.origin i) base) → (over (unstage_at s.origin) place ds y).queue ≡ base
+unstages_queue s stamp none odd place [] y slices base queue_is unstaged_base = queue_is ∙ append-nil base
+unstages_queue s stamp none odd place ((to, Some r) ∷ rest) y slices base queue_is unstaged_base = unstages_queue s stamp none odd (place + 1) rest y slices base queue_is unstaged_base
+unstages_queue s stamp none odd place ((to, None) ∷ rest) y slices base queue_is unstaged_base = by (to.owner == y.me) refl (unstages_queue s stamp none odd (place + 1) rest) queue_is
+  where
+    one : Key × Entry
+    one = copy s stamp none place to slices
+
+    left : List Slice → List (Key × Entry)
+    left sl = copies s y.me stamp none (place + 1) sl rest
+
+    itself : is_stage s.origin place one ≡ true
+    itself = ap (λ b. b && (s.origin == s.origin) && (place == place)) odd ∙ ap (λ b. b && (place == place)) (eq-eqb s.origin s.origin refl) ∙ eq-eqb place place refl
+
+    others : (sl : List Slice) → NonePass (is_stage s.origin place) (left sl)
+    others sl = copies_all s y.me stamp none (λ f. is_stage s.origin place f ≡ false) (place + 1) sl rest (λ i t z low high. and_right (is_odd stamp && (s.origin == s.origin)) (i == place) (ne_eqb i place (λ e. absurd (omega (arith, e, low)))))
+
+    Further : Type 0
+    Further = (z : PeerPart) (sl : List Slice) (bs : List (Key × Entry)) → z.queue ≡ bs ++ copies s z.me stamp none (place + 1) sl rest → ((i : ℕ) → NonePass (is_stage s.origin i) bs) → (over (unstage_at s.origin) (place + 1) rest z).queue ≡ bs
+
+    by : (b : Bool) → to.owner == y.me ≡ b → Further → y.queue ≡ base ++ cond b (one ∷ left (taken (letter_len s) slices)) (left slices)
+        → (over (unstage_at s.origin) (place + 1) rest (cond b (unstaged y s.origin place) y)).queue ≡ base
+    by true own further queue =
+        let found : find_stage y s.origin place ≡ Some one = ap (find (is_stage s.origin place)) queue ∙ find_past (is_stage s.origin place) base one (left (taken (letter_len s) slices)) (unstaged_base place) itself in
+        let then : unstaged y s.origin place ≡ unstaged_by (Some one) y s.origin place = ap (λ f. unstaged_by f y s.origin place) found in
+        ap (λ z. (over (unstage_at s.origin) (place + 1) rest z).queue) then
+        ∙ further (unstaged_by (Some one) y s.origin place) (taken (letter_len s) slices) base
+        (ap (without (is_stage s.origin place)) queue ∙ without_one (is_stage s.origin place) base one (left (taken (letter_len s) slices)) (unstaged_base place) itself (others (taken (letter_len s) slices)))
+        unstaged_base
+    by false other further queue = further y slices base queue unstaged_base
