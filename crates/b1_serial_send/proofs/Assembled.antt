@@ -64,7 +64,7 @@ accepted_some (None ∷ rest) all some = refl
 accepted_some (Some r ∷ rest) all some = absurd all
 
 -- the first refusal behind accepted places
-refusal_behind : (here : ℕ) (zs : Places) (a : Reason) (more : Places) → AreAccepted zs → first_refusal here ((zs ++ Some a ∷ []) ++ more) ≡ Some (refused_at a (Some (here + length zs)))
+pub refusal_behind : (here : ℕ) (zs : Places) (a : Reason) (more : Places) → AreAccepted zs → first_refusal here ((zs ++ Some a ∷ []) ++ more) ≡ Some (refused_at a (Some (here + length zs)))
 refusal_behind here [] a more all = ap (λ k. Some (refused_at a (Some k))) (omega arith)
 refusal_behind here (None ∷ rest) a more all = refusal_behind (here + 1) rest a more all ∙ ap (λ k. Some (refused_at a (Some k))) (omega arith)
 refusal_behind here (Some r ∷ rest) a more all = absurd all
@@ -83,27 +83,27 @@ nothing_accepted (t ∷ ts) s same = ap (λ zs. accepted (record s { to = zs }) 
 
 module _ {o : Opening} {s : State} {bus : Bus} (opens : IsOpening o) (reached : Reached o s) (rest : AtRest o s bus) (m : Shortage)
     (d : DriverPart) (is_driver : slice_get s.drivers d.me ≡ Some d) (x : PeerPart) (is_peer : slice_get s.peers d.me ≡ Some x) (c : SendCmd) where
-  abbrev begun : Begun
+  abbrev pub begun : Begun
   begun = begun_nodes x c
 
-  abbrev f : PeerPart → PeerPart
+  abbrev pub f : PeerPart → PeerPart
   f = with_begin d.me c
 
-  abbrev with_nodes : Bus
+  abbrev pub with_nodes : Bus
   with_nodes = begun_bus opens reached rest d.me c
 
-  abbrev letter : Letter
+  abbrev pub letter : Letter
   letter = record { origin = d.me; user = user_of o d.me; to = begun.to; with = begun.with; payload = c.payload }
 
-  abbrev short : Option ℕ → Bool
+  abbrev pub short : Option ℕ → Bool
   short place = m d.me (length d.calls) place
 
   -- what all destinations answer
-  abbrev final : Places
+  abbrev pub final : Places
   final = answered with_nodes letter short begun.to []
 
   -- the bus after it
-  abbrev wanted : Bus
+  abbrev pub wanted : Bus
   wanted = after_places c letter final (part_of (begun_part x c) d) with_nodes
 
   x_me : x.me ≡ d.me
@@ -116,12 +116,12 @@ module _ {o : Opening} {s : State} {bus : Bus} (opens : IsOpening o) (reached : 
   abbrev staged_parts : Places → PeerPart → PeerPart
   staged_parts places y = over (stage_at letter) 0 (zip begun.to places) (f y)
 
-  missing : (q : ℕ) → slice_get (bus_of s) q ≡ None → slice_get with_nodes q ≡ None
+  pub missing : (q : ℕ) → slice_get (bus_of s) q ≡ None → slice_get with_nodes q ≡ None
   missing q none = at_none d.me q (making c.with) bus (ap (λ b. slice_get b q) rest.is_bus ∙ none)
 
   -- ---- the bus by its places
 
-  wanted_by : (r : Option Answer) → send_refusal c.go_on letter final ≡ r
+  pub wanted_by : (r : Option Answer) → send_refusal c.go_on letter final ≡ r
       → wanted ≡ elim r [ Some answer ↦ at_peer d.me (called (cmd.Send c) answer) with_nodes | None ↦ sent c letter final (stamp_of with_nodes letter (begun_part x c).clock (accepted letter final)) (part_of (begun_part x c) d) with_nodes ]
   wanted_by (Some answer) is =
       ap (λ r. elim r [ Some a ↦ send_called c a (part_of (begun_part x c) d) with_nodes | None ↦ sent c letter final (stamp_of with_nodes letter (begun_part x c).clock (accepted letter final)) (part_of (begun_part x c) d) with_nodes ]) is

@@ -45,7 +45,7 @@ bus_there s q x w is_x is_w = parts_read s.peers s.drivers q ∙ ap₂ paired is
 pub bus_none : (s : State) (q : ℕ) → slice_get s.peers q ≡ None → slice_get (bus_of s) q ≡ None
 bus_none s q none = parts_read s.peers s.drivers q ∙ ap (λ r. paired r (slice_get s.drivers q)) none
 
-set_read : {X : Type 0} (xs : List X) (i j : ℕ) (y z : X) → slice_get xs j ≡ Some z → slice_get (set xs i y) j ≡ Some (cond (i == j) y z)
+pub set_read : {X : Type 0} (xs : List X) (i j : ℕ) (y z : X) → slice_get xs j ≡ Some z → slice_get (set xs i y) j ≡ Some (cond (i == j) y z)
 set_read xs i j y z is = by (cases_eq i j)
   where
     by : (i ≡ j) ⊎ (i ≡ j → ⊥) → slice_get (set xs i y) j ≡ Some (cond (i == j) y z)

@@ -63,7 +63,7 @@ pub of_bare : (w : DriverPart) (x : PeerPart) → part_of x w ≡ with_three (ba
 of_bare w x = refl
 
 module _ (w : DriverPart) where
-  bare_stage : (s : Letter) (place : ℕ) (to : NodeRef) (x : PeerPart) → bare w (stage_at s place to x) ≡ bare w x
+  pub bare_stage : (s : Letter) (place : ℕ) (to : NodeRef) (x : PeerPart) → bare w (stage_at s place to x) ≡ bare w x
   bare_stage s place to x = at_keeps (bare w) to.owner (λ y. staged y s.origin s.user place to.serial s.payload s.with) x (ap (λ ls. record (bare w x) { lines = ls }) (lines_expected (foreign x.me s.with) x.handles))
 
   bare_attached : (a : Attach) (x : PeerPart) (serial dest : ℕ) → bare w (attached_by a x serial dest) ≡ bare w x

@@ -24,3 +24,4 @@ mod Assembled
 mod Runs
 mod Pools
 mod Unstaging
+mod TakenBack

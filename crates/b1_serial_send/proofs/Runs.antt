@@ -18,6 +18,7 @@ use Rattle.b1_serial_rest.specs.Rest.{AtRest}
 use Rattle.b1_serial_rest.specs.Whole.{RunsWhole}
 use Rattle.b1_serial_rest.proofs.Own.{Parts, parts_at}
 use Rattle.b1_serial_send.proofs.Facts.{placed}
+use Rattle.b1_serial_send.proofs.TakenBack.{takes_back}
 use Rattle.b1_serial_send.proofs.Assembled.{send_runs}
 
 module _ {o : Opening} {s : State} {bus : Bus} (opens : IsOpening o) (reached : Reached o s) (rest : AtRest o s bus) (m : Shortage)
@@ -42,3 +43,17 @@ module _ {o : Opening} {s : State} {bus : Bus} (opens : IsOpening o) (reached : 
       ∙ ap (λ b. cond b (after_command m (cmd.Send c) (record y { shut = true }) bus) (after_send (m y.me (length y.calls)) c y bus)) is_open
       ∙ ap (λ z. after_send (m z.me (length z.calls)) c z bus) here.4
       ∙ ap (λ k. after_send (m k (length d.calls)) c (part_of x d) bus) (placed opens reached rest p x here.2 ∙ sym me_is)
+
+  -- the whole command
+  pub runs : (t : State) × RunsWhole o m p command s t × AtRest o t (after_command_of m p command bus)
+  runs =
+      subst (λ k. (t : State) × RunsWhole o m k command s t × AtRest o t (after_command_of m p command bus)) me_is
+      (subst (λ b. (t : State) × RunsWhole o m d.me command s t × AtRest o t b) (sym after_is)
+      (send_runs opens reached rest m d driver_there x peer_there c command (sym (ap (λ z. z.shut) here.4) ∙ is_open) (ap (λ calls. resolved command calls) (sym (ap (λ z. z.calls) here.4)) ∙ resolves)
+      (λ some destinations places more a below stops all is_final. takes_back opens reached rest m d driver_there x peer_there c places more a below stops all is_final (λ to there. let z = destinations to there in (z.0, z.2)))))
+    where
+      driver_there : slice_get s.drivers d.me ≡ Some d
+      driver_there = ap (slice_get s.drivers) me_is ∙ here.3
+
+      peer_there : slice_get s.peers d.me ≡ Some x
+      peer_there = ap (slice_get s.peers) me_is ∙ here.2

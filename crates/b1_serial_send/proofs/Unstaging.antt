@@ -148,3 +148,67 @@ unstages_queue s stamp none odd place ((to, None) ∷ rest) y slices base queue_
         (ap (without (is_stage s.origin place)) queue ∙ without_one (is_stage s.origin place) base one (left (taken (letter_len s) slices)) (unstaged_base place) itself (others (taken (letter_len s) slices)))
         unstaged_base
     by false other further queue = further y slices base queue unstaged_base
+
+-- ---- the steps
+
+module _ (o : Opening) (m : Shortage) (target : Bus) (s : State) (d : DriverPart) (c : SendCmd) (begun : Begun)
+    (placed : Placed s.peers) (is_driver : slice_get s.drivers d.me ≡ Some d) (answers : Places) (len : length answers ≤ length begun.to) (refused : Refused)
+    (g : PeerPart → PeerPart) (g_keeps : (y : PeerPart) → (g y).me ≡ y.me)
+    (owner : (before rest : Places) (to : NodeRef) → answers ≡ before ++ None ∷ rest → slice_get begun.to (length before) ≡ Some to → (x : PeerPart) × (slice_get s.peers to.owner ≡ Some x)) where
+  abbrev letter : Letter
+  letter = record { origin = 0; user = 0; to = begun.to; with = []; payload = [] }
+
+  abbrev At : (PeerPart → PeerPart) → Turn → Type 0
+  At h turn = WillEnd o m d.me target (midway s d.me (turned_to d c turn) h)
+
+  -- a part where what was staged at the first places is taken back
+  abbrev pub after_unstages : Places → PeerPart → PeerPart
+  after_unstages before y = over (unstage_at d.me) 0 (zip begun.to before) (g y)
+
+  unstages_keep : (before : Places) (y : PeerPart) → (after_unstages before y).me ≡ y.me
+  unstages_keep before y = over_keeps (λ z. z.me) (unstage_at d.me) (λ place to x. unstage_keeps (λ z. z.me) (λ z queue slices handles. refl) d.me place to x) 0 (zip begun.to before) (g y) ∙ g_keeps y
+
+  same_parts : (h j : PeerPart → PeerPart) (turn : Turn) → ((y : PeerPart) → h y ≡ j y) → At h turn → At j turn
+  same_parts h j turn same = subst (λ xs. WillEnd o m d.me target (record { peers = xs; drivers = set s.drivers d.me (turned_to d c turn) })) (map_same h j s.peers same)
+
+  read_to : (before rest : Places) (a : Option Reason) → answers ≡ before ++ a ∷ rest → (to : NodeRef) × (slice_get begun.to (length before) ≡ Some to)
+  read_to before rest a all = (get_or begun.to (length before) no_ref, slice_get-get_or begun.to (length before) no_ref (let one = ap length all in let two = length-append before (a ∷ rest) in omega (arith, one, two, len)))
+
+  abbrev Back : Places → Type 0
+  Back before = At (after_unstages before) (unstaging begun answers refused (accepted_from (length before) answers))
+
+  back_refused : (before rest : Places) (r : Reason) → answers ≡ before ++ Some r ∷ rest → Back (before ++ Some r ∷ []) → Back before
+  back_refused before rest r all next =
+      let to = read_to before rest (Some r) all in
+      let same_from : accepted_from (length (before ++ Some r ∷ [])) answers ≡ accepted_from (length before) answers =
+          ap (λ k. accepted_from k answers) (length-append before (Some r ∷ []))
+          ∙ ap (accepted_from (length before + 1)) all ∙ sym (refused_here before rest r) ∙ ap (accepted_from (length before)) (sym all) in
+      same_parts (after_unstages (before ++ Some r ∷ [])) (after_unstages before) (unstaging begun answers refused (accepted_from (length before) answers)) (λ y. over_none letter before to.0 to.1 (unstage_at d.me) r (g y))
+      (subst (λ k. At (after_unstages (before ++ Some r ∷ [])) (unstaging begun answers refused k)) same_from next)
+
+  back_accepted : (before rest : Places) → answers ≡ before ++ None ∷ rest → Back (before ++ None ∷ []) → Back before
+  back_accepted before rest all next =
+      let to = read_to before rest None all in
+      let x = owner before rest to.0 all to.1 in
+      let owner_is : (node_of_place begun.to (length before)).owner ≡ to.0.owner = ap (λ n. n.owner) (get_or_from_slice_get begun.to (length before) to.0 no_ref to.1) in
+      let from_here : accepted_from (length before) answers ≡ length before = ap (accepted_from (length before)) all ∙ accepted_here before rest in
+      let is_here : is_place (length before) answers ≡ true = ap (is_place (length before)) all ∙ place_here before rest None in
+      subst (λ k. At (after_unstages before) (unstaging begun answers refused k)) (sym from_here)
+      (subst (λ b. At (after_unstages before) (cond b (Goes (Unstaging begun answers refused (length before))) (driver.Ends (ans.Refused refused)))) (sym is_here)
+      (goes o m d.me target s d c placed is_driver (Unstaging begun answers refused (length before)) (after_unstages before) (λ y. unstaged y d.me (length before)) (after_unstages (before ++ None ∷ []))
+      to.0.owner x.0 _ (unstages_keep before) x.1 owner_is
+      (ap (λ e. (e, unstaged (after_unstages before x.0) d.me (length before))) (turned_so d c (Unstaging begun answers refused (length before)) (unstaging begun answers refused (accepted_from (length before + 1) answers))))
+      (λ y. sym (over_one letter before to.0 to.1 (unstage_at d.me) (g y)))
+      (subst (λ k. At (after_unstages (before ++ None ∷ [])) (unstaging begun answers refused (accepted_from k answers))) (length-append before (None ∷ [])) next)))
+
+  -- the SEND ends with its refusal
+  pub unstages_go : WillEnd o m d.me target (midway s d.me (ended (sending_driver d c Starting) (cmd.Send c) (ans.Refused refused)) (after_unstages answers)) → At g (unstaging begun answers refused (accepted_from 0 answers))
+  unstages_go last =
+      same_parts (after_unstages []) g (unstaging begun answers refused (accepted_from 0 answers)) (λ y. none begun.to (g y))
+      (places_back answers Back back_refused back_accepted
+      (subst (λ b. At (after_unstages answers) (cond b (Goes (Unstaging begun answers refused (accepted_from (length answers) answers))) (driver.Ends (ans.Refused refused)))) (sym (none_left answers)) last)
+      answers [] refl)
+    where
+      none : (ts : List NodeRef) (y : PeerPart) → over (unstage_at d.me) 0 (zip ts []) y ≡ y
+      none [] y = refl
+      none (t ∷ ts) y = refl
