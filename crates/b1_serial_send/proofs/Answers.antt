@@ -23,7 +23,7 @@ use Rattle.b1_serial_bus.specs.Lives.{destroyed_at}
 use Rattle.b1_serial_bus.specs.Letters.{Letter, Places, letter_len, accepted_by}
 use Rattle.b1_serial_bus.specs.Places.{after_taken, over_quota, place_reasons, answer_of}
 use Rattle.b1_serial_rest.specs.Standing.{stamp_of, own_of, part_of}
-use Rattle.b1_serial_send.specs.Midway.{Answered, over, stage_at}
+use Rattle.b1_serial_send.proofs.Midway.{Answered, over, stage_at}
 use Rattle.b1_serial_send.proofs.Charges.{count_at, counted_so, stages_leave, stages_take, stages_charge}
 
 -- ---- first reasons

@@ -37,7 +37,7 @@ use Rattle.b1_serial_bus.specs.Send.{first_refusal, send_refusal, send_called, s
 use Rattle.b1_serial_rest.specs.Standing.{part_of, bus_of}
 use Rattle.b1_serial_rest.specs.Rest.{AtRest}
 use Rattle.b1_serial_rest.specs.Whole.{RunsWhole}
-use Rattle.b1_serial_send.specs.Midway.{Answered, with_begin, over, stage_at, sending_driver, midway}
+use Rattle.b1_serial_send.proofs.Midway.{Answered, with_begin, over, stage_at, sending_driver, midway}
 use Rattle.b1_serial_send.proofs.Parts.{map_same}
 use Rattle.b1_serial_send.proofs.Goes.{WillEnd}
 use Rattle.b1_serial_send.proofs.Staging.{turned_to, AreAccepted, answered_more, staged_all}

@@ -34,7 +34,7 @@ use Rattle.b1_serial_bus.specs.Lives.{destroyed_in}
 use Rattle.b1_serial_bus.specs.Letters.{Letter, Places}
 use Rattle.b1_serial_bus.specs.Delivery.{slot_for}
 use Rattle.b1_serial_rest.specs.Standing.{stamp_of, part_of}
-use Rattle.b1_serial_send.specs.Midway.{at_part, over, attach_at, attach_all, sending_driver, midway}
+use Rattle.b1_serial_send.proofs.Midway.{at_part, over, attach_at, attach_all, sending_driver, midway}
 use Rattle.b1_serial_send.proofs.Lists.{over_keeps, over_one, over_none, fold_append}
 use Rattle.b1_serial_send.proofs.Parts.{Placed, at_keeps, map_same}
 use Rattle.b1_serial_send.proofs.Goes.{WillEnd, goes}

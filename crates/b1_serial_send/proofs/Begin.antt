@@ -27,7 +27,7 @@ use Rattle.b1_step.proofs.Steps.{step_of, reached_more}
 use Rattle.b1_serial_bus.specs.Parts.{Bus}
 use Rattle.b1_serial_rest.specs.Rest.{AtRest}
 use Rattle.b1_serial_rest.specs.Whole.{own_step, own_steps, is_open_at, RunsWhole}
-use Rattle.b1_serial_send.specs.Midway.{at_part, with_begin, sending_driver, midway}
+use Rattle.b1_serial_send.proofs.Midway.{at_part, with_begin, sending_driver, midway}
 use Rattle.b1_serial_send.proofs.Parts.{Placed, set_at, map_same, at_keeps}
 use Rattle.b1_serial_send.proofs.Goes.{WillEnd}
 

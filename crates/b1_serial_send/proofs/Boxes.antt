@@ -28,7 +28,7 @@ use Rattle.b1_serial_bus.specs.Letters.{Letter, Places, letter_len, accepted_by}
 use Rattle.b1_serial_bus.specs.Places.{place_reasons, answer_of, answered}
 use Rattle.b1_serial_bus.specs.Delivery.{slot_for, delivered_from}
 use Rattle.b1_serial_rest.specs.Rest.{sent_to, is_notice_of, is_noticed_behind, BoxesRight}
-use Rattle.b1_serial_send.specs.Midway.{Answered}
+use Rattle.b1_serial_send.proofs.Midway.{Answered}
 use Rattle.b1_serial_send.proofs.Lists.{zip_more}
 use Rattle.b1_serial_send.proofs.Charges.{count_at}
 use Rattle.b1_serial_send.proofs.Keys.{IsLast}

@@ -13,7 +13,7 @@ use Rattle.b1_model.specs.MachineTables.{put, amount, charged}
 use Rattle.b1_model.specs.MachineSend.{staged}
 use Rattle.b1_serial_bus.specs.Letters.{Letter, letter_len}
 use Rattle.b1_serial_bus.specs.Places.{after_taken}
-use Rattle.b1_serial_send.specs.Midway.{Answered, at_part, over, stage_at}
+use Rattle.b1_serial_send.proofs.Midway.{Answered, at_part, over, stage_at}
 
 -- how many accepted ones of some destinations are a peer's
 abbrev pub count_at : ℕ → Answered → ℕ

@@ -23,7 +23,7 @@ use Rattle.b1_model.specs.MachineStep.{effect}
 use Rattle.b1_schedule.specs.Shortage.{Shortage, is_short}
 use Rattle.b1_serial_bus.specs.Parts.{Bus}
 use Rattle.b1_serial_bus.specs.Letters.{Letter, Places}
-use Rattle.b1_serial_send.specs.Midway.{at_part, over, stamp_at, sync_at, commit_at, sending_driver, midway}
+use Rattle.b1_serial_send.proofs.Midway.{at_part, over, stamp_at, sync_at, commit_at, sending_driver, midway}
 use Rattle.b1_serial_send.proofs.Lists.{over_keeps, over_one, over_none}
 use Rattle.b1_serial_send.proofs.Parts.{Placed, at_keeps, map_same}
 use Rattle.b1_serial_send.proofs.Goes.{WillEnd, goes}

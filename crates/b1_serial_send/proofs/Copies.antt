@@ -16,7 +16,7 @@ use Rattle.b1_step.specs.Rights.{Has}
 use Rattle.b1_step.proofs.Lists.{has_append, has_left, has_right}
 use Rattle.b1_serial_bus.specs.Letters.{Letter, letter_len}
 use Rattle.b1_serial_bus.specs.Places.{after_taken}
-use Rattle.b1_serial_send.specs.Midway.{Answered, over, stage_at, commit_at}
+use Rattle.b1_serial_send.proofs.Midway.{Answered, over, stage_at, commit_at}
 use Rattle.b1_serial_send.proofs.Charges.{count_at}
 use Rattle.b1_serial_send.proofs.Attaching.{no_slots}
 use Rattle.b1_serial_send.proofs.Keys.{before_stamp, before_index, not_back, not_behind_later, IsLast, put_last, NonePass, find_past, without_one}

@@ -20,7 +20,7 @@ use Rattle.b1_serial_bus.specs.Lives.{destroyed_in}
 use Rattle.b1_serial_bus.specs.Letters.{Letter, letter_len}
 use Rattle.b1_serial_bus.specs.Places.{after_taken}
 use Rattle.b1_serial_bus.specs.Delivery.{slot_for, message_of, with_message, without_notice, delivered, delivered_from}
-use Rattle.b1_serial_send.specs.Midway.{Answered}
+use Rattle.b1_serial_send.proofs.Midway.{Answered}
 use Rattle.b1_serial_send.proofs.Charges.{count_at}
 use Rattle.b1_serial_send.proofs.Keys.{IsLast, put_last, without_has}
 use Rattle.b1_serial_send.proofs.Copies.{place_key, copy, copies, next_last, later_last}

@@ -20,7 +20,7 @@ use Rattle.b1_serial_rest.specs.Standing.{part_of, parts_of, bus_of}
 use Rattle.b1_serial_rest.specs.Rest.{BoxesRight, IsQuiet, AtRest}
 use Rattle.b1_serial_rest.specs.Whole.{is_open_at}
 use Rattle.b1_serial_whole.proofs.Determined.{rests_by}
-use Rattle.b1_serial_send.specs.Midway.{Answered, midway}
+use Rattle.b1_serial_send.proofs.Midway.{Answered, midway}
 use Rattle.b1_serial_send.proofs.Parts.{lists_same}
 use Rattle.b1_serial_send.proofs.Goes.{Ends, WillEnd}
 

@@ -30,7 +30,7 @@ use Rattle.b1_serial_bus.specs.Parts.{Part, Bus, at_peer}
 use Rattle.b1_serial_bus.specs.Named.{making}
 use Rattle.b1_serial_rest.specs.Standing.{part_of, bus_of}
 use Rattle.b1_serial_rest.specs.Rest.{IsQuiet, AtRest}
-use Rattle.b1_serial_send.specs.Midway.{at_part, with_begin, midway}
+use Rattle.b1_serial_send.proofs.Midway.{at_part, with_begin, midway}
 use Rattle.b1_serial_send.proofs.Parts.{Placed, at_keeps, at_own, at_other}
 use Rattle.b1_serial_send.proofs.Keys.{NonePass, without_none}
 use Rattle.b1_serial_send.proofs.Gone.{ReleasesRight}

@@ -18,7 +18,7 @@ use Rattle.b1_serial_bus.specs.Parts.{OwnNode, Part}
 use Rattle.b1_serial_bus.specs.Letters.{Letter, letter_len}
 use Rattle.b1_serial_bus.specs.Places.{after_taken}
 use Rattle.b1_serial_rest.specs.Standing.{own_of, with_line, lines_of, part_of}
-use Rattle.b1_serial_send.specs.Midway.{Answered, at_part, over, stage_at, attach_at, attach_all, stamp_at, sync_at, commit_at}
+use Rattle.b1_serial_send.proofs.Midway.{Answered, at_part, over, stage_at, attach_at, attach_all, stamp_at, sync_at, commit_at}
 use Rattle.b1_serial_send.proofs.Lists.{over_keeps}
 use Rattle.b1_serial_send.proofs.Parts.{at_keeps, at_other}
 use Rattle.b1_serial_send.proofs.Charges.{count_at, stages_take}

@@ -10,7 +10,7 @@ use Rattle.b1_model.specs.declared.answers.Reason.{Reason}
 use Rattle.b1_model.specs.MachineParts.{PeerPart, node_at, is_dying, is_destroyed, is_release_notice}
 use Rattle.b1_model.specs.MachineTables.{without}
 use Rattle.b1_model.specs.MachineSend.{attach_by, attached_by, attached}
-use Rattle.b1_serial_send.specs.Midway.{Answered, over, attach_at, attach_all}
+use Rattle.b1_serial_send.proofs.Midway.{Answered, over, attach_at, attach_all}
 use Rattle.b1_serial_send.proofs.Attaching.{attach_state, attach_me, eqb_turned}
 use Rattle.b1_serial_send.proofs.Keys.{NonePass, without_none, without_append}
 

@@ -1,3 +1,4 @@
+mod Midway
 mod Lists
 mod Keys
 mod Parts
@@ -20,8 +21,8 @@ mod Boxes
 mod Stamps
 mod Sent
 mod RefusedEnd
-mod Assembled
-mod Runs
 mod Pools
 mod Unstaging
+mod Assembled
 mod TakenBack
+mod Runs

@@ -5,7 +5,7 @@ use Rattle.b1_model.specs.declared.naming.NodeRef.{NodeRef}
 use Rattle.b1_model.specs.declared.answers.Reason.{Reason}
 use Rattle.b1_model.specs.MachineParts.{PeerPart}
 use Rattle.b1_serial_bus.specs.Letters.{Letter, Places, accepted}
-use Rattle.b1_serial_send.specs.Midway.{Answered, over}
+use Rattle.b1_serial_send.proofs.Midway.{Answered, over}
 
 -- ---- max
 

@@ -5,7 +5,7 @@ use Rattle.std.proofs.lemmas.Bool.{eq-eqb, ne_eqb, cases_eq}
 use Rattle.std.proofs.lemmas.Option.{same_Some, slice_get-map}
 use Rattle.b1_model.specs.MachineParts.{PeerPart, DriverPart}
 use Rattle.b1_step.proofs.Lists.{read_same, read_other}
-use Rattle.b1_serial_send.specs.Midway.{at_part}
+use Rattle.b1_serial_send.proofs.Midway.{at_part}
 
 -- ---- lists
 

@@ -18,7 +18,7 @@ use Rattle.b1_serial_bus.specs.Letters.{Places}
 use Rattle.b1_serial_rest.specs.Standing.{part_of, bus_of}
 use Rattle.b1_serial_rest.specs.Rest.{IsQuiet, BoxesRight}
 use Rattle.b1_serial_rest.proofs.Shown.{boxes_same}
-use Rattle.b1_serial_send.specs.Midway.{over, sending_driver, midway}
+use Rattle.b1_serial_send.proofs.Midway.{over, sending_driver, midway}
 use Rattle.b1_serial_send.proofs.Delivered.{read_change}
 use Rattle.b1_serial_send.proofs.Ending.{at_none, bus_same, ends_here}
 use Rattle.b1_serial_send.proofs.Goes.{WillEnd}

@@ -34,7 +34,7 @@ use Rattle.b1_serial_bus.specs.Delivery.{slot_for, delivered_from}
 use Rattle.b1_serial_rest.specs.Standing.{part_of, bus_of}
 use Rattle.b1_serial_rest.specs.Rest.{BoxesRight, AtRest}
 use Rattle.b1_serial_rest.proofs.Shown.{boxes_same}
-use Rattle.b1_serial_send.specs.Midway.{Answered, at_part, with_begin, over, stage_at, attach_at, attach_all, stamp_at, sync_at, commit_at, sending_driver, midway}
+use Rattle.b1_serial_send.proofs.Midway.{Answered, at_part, with_begin, over, stage_at, attach_at, attach_all, stamp_at, sync_at, commit_at, sending_driver, midway}
 use Rattle.b1_serial_send.proofs.Lists.{over_keeps, zip_len}
 use Rattle.b1_serial_send.proofs.Parts.{at_keeps, at_own, map_same, read_map}
 use Rattle.b1_serial_send.proofs.Goes.{WillEnd}

@@ -31,7 +31,7 @@ use Rattle.b1_serial_bus.specs.Letters.{Letter, Places, accepted, clock_at}
 use Rattle.b1_serial_bus.specs.Places.{answered}
 use Rattle.b1_serial_bus.specs.Places as replies
 use Rattle.b1_serial_rest.specs.Standing.{part_of}
-use Rattle.b1_serial_send.specs.Midway.{at_part, over, stage_at, sending_driver, midway}
+use Rattle.b1_serial_send.proofs.Midway.{at_part, over, stage_at, sending_driver, midway}
 use Rattle.b1_serial_send.proofs.Lists.{over_keeps, over_one, over_none, accepted_one, accepted_none, fold_append, map_more}
 use Rattle.b1_serial_send.proofs.Parts.{Placed, at_keeps}
 use Rattle.b1_serial_send.proofs.Goes.{WillEnd, goes}

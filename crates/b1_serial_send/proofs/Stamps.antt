@@ -7,7 +7,7 @@ use Rattle.b1_model.specs.declared.answers.Reason.{Reason}
 use Rattle.b1_model.specs.MachineDriver.{next_accepted, accepted_from, is_place}
 use Rattle.b1_step.specs.Rights.{Has}
 use Rattle.b1_serial_bus.specs.Letters.{Letter, Places, accepted}
-use Rattle.b1_serial_send.specs.Midway.{Answered}
+use Rattle.b1_serial_send.proofs.Midway.{Answered}
 use Rattle.b1_serial_send.proofs.Lists.{max_twice, fold_max, fold_append}
 use Rattle.b1_serial_send.proofs.Charges.{count_at}
 use Rattle.b1_serial_send.proofs.Accepted.{not_below}

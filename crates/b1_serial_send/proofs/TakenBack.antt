@@ -37,7 +37,7 @@ use Rattle.b1_serial_bus.specs.Letters.{Letter, Places}
 use Rattle.b1_serial_bus.specs.Send.{first_refusal, send_refusal}
 use Rattle.b1_serial_rest.specs.Standing.{part_of}
 use Rattle.b1_serial_rest.specs.Rest.{AtRest}
-use Rattle.b1_serial_send.specs.Midway.{Answered, with_begin, over, stage_at, unstage_at, sending_driver, midway}
+use Rattle.b1_serial_send.proofs.Midway.{Answered, with_begin, over, stage_at, unstage_at, sending_driver, midway}
 use Rattle.b1_serial_send.proofs.Lists.{over_keeps}
 use Rattle.b1_serial_send.proofs.Parts.{at_keeps, read_map}
 use Rattle.b1_serial_send.proofs.Goes.{Ends, WillEnd}

@@ -29,7 +29,7 @@ use Rattle.b1_inv_refs.proofs.Numbered.{EachRecord, each_changed, each_made}
 use Rattle.b1_serial_bus.specs.Parts.{Part, Bus}
 use Rattle.b1_serial_bus.specs.Letters.{Letter, Places, letter_len}
 use Rattle.b1_serial_rest.specs.Standing.{with_line, lines_of, part_of}
-use Rattle.b1_serial_send.specs.Midway.{Answered, over, at_part, stage_at, unstage_at, sending_driver, midway}
+use Rattle.b1_serial_send.proofs.Midway.{Answered, over, at_part, stage_at, unstage_at, sending_driver, midway}
 use Rattle.b1_serial_send.proofs.Lists.{over_keeps, over_one, over_none}
 use Rattle.b1_serial_send.proofs.Parts.{Placed, at_keeps, map_same}
 use Rattle.b1_serial_send.proofs.Goes.{WillEnd, goes}
