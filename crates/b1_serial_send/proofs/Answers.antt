@@ -1,20 +1,18 @@
 -- A destination's answer at the machine is that of the serial bus, whatever was staged before it.
-use Rattle.std.proofs.Common.{◌≡◌, refl, sym, ap, ◌∙◌, ap₂, subst, ℕ, zero, suc, ◌+◌, ◌*◌, ◌<◌, ◌==◌, Bool, true, false, cond, not, nat_lt, nat_le, List, [], ◌∷◌, ◌++◌, map, get_or, length, zip, Option, Some, None, option_map, is_some, arith}
+use Rattle.std.proofs.Common.{◌≡◌, refl, sym, ap, ◌∙◌, ap₂, ℕ, ◌+◌, ◌*◌, ◌<◌, ◌==◌, Bool, false, cond, not, nat_lt, nat_le, List, [], ◌∷◌, ◌++◌, length, zip, Option, Some, None, option_map, is_some, arith}
 use Rattle.std.specs.Prelude.{slice_get}
 use Rattle.std.specs.Bool.{then_some}
 use Rattle.std.proofs.lemmas.Bool.{eq-eqb}
 use Rattle.std.proofs.lemmas.Option.{slice_get-get_or, slice_get-map}
-use Rattle.b1_model.specs.declared.naming.Key.{Key}
 use Rattle.b1_model.specs.declared.naming.NodeRef.{NodeRef}
 use Rattle.b1_model.specs.declared.parts.NodeState.{NodeState}
 use Rattle.b1_model.specs.declared.parts.NodeState.TheVariants.{Live, Dying, Destroyed}
-use Rattle.b1_model.specs.declared.entries.Entry.{Entry}
 use Rattle.b1_model.specs.declared.answers.Reason.{Reason}
 use Rattle.b1_model.specs.declared.answers.Reason.TheVariants as reason
 use Rattle.b1_model.specs.declared.answers.Quantity.{Quantity}
 use Rattle.b1_model.specs.declared.answers.Quantity.TheVariants.{Entries, Bytes, Handles}
-use Rattle.b1_model.specs.MachineParts.{PeerPart, DriverPart, NodePart, HandleRecord, Slice, no_node, node_at, is_live, is_dying, clock_limit}
-use Rattle.b1_model.specs.MachinePool.{largest_free, slice_len}
+use Rattle.b1_model.specs.MachineParts.{PeerPart, DriverPart, no_node, node_at, is_live, is_dying, clock_limit}
+use Rattle.b1_model.specs.MachinePool.{largest_free}
 use Rattle.b1_model.specs.MachineTables as tables
 use Rattle.b1_model.specs.MachineTables.{amount, charged, limit_of, within_quota}
 use Rattle.b1_model.specs.MachineSend.{first_reason, stage_refusal}

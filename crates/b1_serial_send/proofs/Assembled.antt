@@ -1,8 +1,7 @@
 -- A whole SEND of an open peer, from a state at rest.
-use Rattle.std.proofs.Common.{◌≡◌, ◌⊎◌, refl, sym, ap, ap₂, ◌∙◌, subst, inl, inr, ℕ, zero, suc, ◌+◌, ◌<◌, ◌≤◌, ◌==◌, max, Bool, true, false, cond, not, nat_lt, List, [], ◌∷◌, ◌++◌, map, fold, filter_map, length, set, zip, Option, Some, None, arith}
+use Rattle.std.proofs.Common.{◌≡◌, refl, sym, ap, ap₂, ◌∙◌, subst, ℕ, ◌+◌, ◌<◌, ◌==◌, max, Bool, true, false, cond, not, List, [], ◌∷◌, ◌++◌, map, fold, filter_map, length, set, zip, Option, Some, None, arith}
 use Rattle.std.specs.Prelude.{slice_get}
 use Rattle.std.proofs.lemmas.Bool.{lt-ltb}
-use Rattle.std.proofs.lemmas.List.{append_assoc}
 use Rattle.b1_model.specs.declared.naming.NodeRef.{NodeRef}
 use Rattle.b1_model.specs.declared.naming.Opening.{Opening}
 use Rattle.b1_model.specs.Opening.{IsOpening}
@@ -13,7 +12,7 @@ use Rattle.b1_model.specs.declared.parts.Begun.{Begun}
 use Rattle.b1_model.specs.declared.answers.Answer.{Answer}
 use Rattle.b1_model.specs.declared.answers.Answer.TheVariants as ans
 use Rattle.b1_model.specs.declared.answers.Reason.{Reason}
-use Rattle.b1_model.specs.declared.events.Phase.TheVariants.{Starting, Staging}
+use Rattle.b1_model.specs.declared.events.Phase.TheVariants.{Staging}
 use Rattle.b1_model.specs.MachineParts.{PeerPart, DriverPart, State, node_at, is_dying}
 use Rattle.b1_model.specs.MachineSend.{begun_part, begun_nodes, first_reason}
 use Rattle.b1_model.specs.MachineDriver.{Turn, Goes, refused_at, accepted_from, is_place, all_refused, attaching, all_staged, staging, unstaging}
@@ -26,7 +25,7 @@ use Rattle.b1_step.specs.Rights.{Has}
 use Rattle.b1_step.proofs.Lists.{read_same, has_all}
 use Rattle.b1_inv.specs.Words.{IsMade}
 use Rattle.b1_law.proofs.Reached.{reached_sound}
-use Rattle.b1_serial_bus.specs.Parts.{Part, Bus, at_peer, called}
+use Rattle.b1_serial_bus.specs.Parts.{Bus, at_peer, called}
 use Rattle.b1_serial_bus.specs.Named.{making}
 use Rattle.b1_serial_bus.specs.Lives.{destroyed_in}
 use Rattle.b1_serial_bus.specs.Delivery.{delivered_from}
@@ -37,10 +36,10 @@ use Rattle.b1_serial_bus.specs.Send.{first_refusal, send_refusal, send_called, s
 use Rattle.b1_serial_rest.specs.Standing.{part_of, bus_of}
 use Rattle.b1_serial_rest.specs.Rest.{AtRest}
 use Rattle.b1_serial_rest.specs.Whole.{RunsWhole}
-use Rattle.b1_serial_send.proofs.Midway.{Answered, with_begin, over, stage_at, sending_driver, midway}
+use Rattle.b1_serial_send.proofs.Midway.{with_begin, over, stage_at, sending_driver, midway}
 use Rattle.b1_serial_send.proofs.Parts.{map_same}
 use Rattle.b1_serial_send.proofs.Goes.{WillEnd}
-use Rattle.b1_serial_send.proofs.Staging.{turned_to, AreAccepted, answered_more, staged_all}
+use Rattle.b1_serial_send.proofs.Staging.{turned_to, AreAccepted, staged_all}
 use Rattle.b1_serial_send.proofs.Ending.{bus_there, at_none}
 use Rattle.b1_serial_send.proofs.Begun.{making_so, letter_so, begin_so}
 use Rattle.b1_serial_send.proofs.Begin.{resting, begin_answer, refused_runs, accepted_runs}
@@ -48,7 +47,7 @@ use Rattle.b1_serial_send.proofs.Boxes.{AreAlive, making_boxes, answered_alive}
 use Rattle.b1_serial_send.proofs.Stamps.{is_any, any_is, accepted_any}
 use Rattle.b1_serial_send.proofs.RefusedEnd.{none_accepted, refused_ends}
 use Rattle.b1_serial_send.proofs.Sent.{target, stamp_is, sent_ends}
-use Rattle.b1_serial_send.proofs.Facts.{placed, living, begun_living, begun_me, begun_clock, begun_bus, begun_there, made_there}
+use Rattle.b1_serial_send.proofs.Facts.{placed, living, begun_me, begun_clock, begun_bus, begun_there, made_there}
 
 -- ---- small facts
 

@@ -3,7 +3,7 @@ use Rattle.std.proofs.Common.{◌≡◌, refl, sym, ap, ap₂, ◌∙◌, subst,
 use Rattle.std.specs.Prelude.{slice_get}
 use Rattle.std.specs.List.{cons_option}
 use Rattle.std.proofs.lemmas.Bool.{lt-ltb, eq-eqb, ne_eqb, cases_eq}
-use Rattle.std.proofs.lemmas.List.{append_assoc, append-nil, length-append, length-set, set-set, get_or-set_same, map-append}
+use Rattle.std.proofs.lemmas.List.{append_assoc, append-nil, length-append, set-set, get_or-set_same, map-append}
 use Rattle.std.proofs.lemmas.Option.{get_or_from_slice_get, slice_get_within, slice_get-get_or}
 use Rattle.b1_model.specs.declared.naming.NodeRef.{NodeRef}
 use Rattle.b1_model.specs.declared.naming.Opening.{Opening}
@@ -22,7 +22,7 @@ use Rattle.b1_model.specs.declared.events.Phase.TheVariants.{Attaching, Stamping
 use Rattle.b1_model.specs.declared.events.Sending.{Sending}
 use Rattle.b1_model.specs.MachineParts.{PeerPart, DriverPart, NodePart, State, no_node, node_at, is_dying}
 use Rattle.b1_model.specs.MachineTables.{with_node, counted}
-use Rattle.b1_model.specs.MachineSend.{attach_by, attach_answer, attached_by, attached, counted_for}
+use Rattle.b1_model.specs.MachineSend.{attach_by, attach_answer, attached_by, attached}
 use Rattle.b1_model.specs.MachineDriver.{Turn, Goes, no_ref, node_of_place, accepted_from, is_place, attaching, slot_of, collected_with, with_slot}
 use Rattle.b1_model.specs.MachineTook.{took, turned}
 use Rattle.b1_model.specs.MachineEvents.{attach_event}
@@ -34,7 +34,7 @@ use Rattle.b1_serial_bus.specs.Lives.{destroyed_in}
 use Rattle.b1_serial_bus.specs.Letters.{Letter, Places}
 use Rattle.b1_serial_bus.specs.Delivery.{slot_for}
 use Rattle.b1_serial_rest.specs.Standing.{stamp_of, part_of}
-use Rattle.b1_serial_send.proofs.Midway.{at_part, over, attach_at, attach_all, sending_driver, midway}
+use Rattle.b1_serial_send.proofs.Midway.{over, attach_at, attach_all, sending_driver, midway}
 use Rattle.b1_serial_send.proofs.Lists.{over_keeps, over_one, over_none, fold_append}
 use Rattle.b1_serial_send.proofs.Parts.{Placed, at_keeps, map_same}
 use Rattle.b1_serial_send.proofs.Goes.{WillEnd, goes}
@@ -342,10 +342,10 @@ module _ (o : Opening) (m : Shortage) (p : ℕ) (target : Bus) (s : State) (d : 
     refused_place before rest r all next =
         let to = read_to before rest (Some r) all in
         let same_from : accepted_from (length (before ++ Some r ∷ [])) final ≡ accepted_from (length before) final =
-            ap (λ k. accepted_from k final) (length-append before (Some r ∷ []))
-            ∙ ap (accepted_from (length before + 1)) all ∙ sym (refused_here before rest r) ∙ ap (accepted_from (length before)) (sym all) in
+        ap (λ k. accepted_from k final) (length-append before (Some r ∷ []))
+        ∙ ap (accepted_from (length before + 1)) all ∙ sym (refused_here before rest r) ∙ ap (accepted_from (length before)) (sym all) in
         let same_sending : attached_so_far (before ++ Some r ∷ []) ≡ attached_so_far before =
-            ap₂ (λ slots k. sending slots k) (sym (rows_refused bus begun.with begun.to before r)) (fold_append (λ k a. elim a [ None ↦ collected_of k begun.with | Some e ↦ k ]) first before (Some r ∷ [])) in
+        ap₂ (λ slots k. sending slots k) (sym (rows_refused bus begun.with begun.to before r)) (fold_append (λ k a. elim a [ None ↦ collected_of k begun.with | Some e ↦ k ]) first before (Some r ∷ [])) in
         same_parts (after_attaches (before ++ Some r ∷ [])) (after_attaches before) (Goes (behind before)) (λ y. over_none letter before to.0 to.1 (attach_all begun.with) r (g y))
         (subst (λ ph. At (after_attaches (before ++ Some r ∷ [])) (Goes ph)) (ap₂ (λ k z. cond (is_place k final) (Attaching z k 0) (Stamping z)) same_from same_sending) next)
       where

@@ -1,5 +1,5 @@
 -- The first step of a SEND, from a state at rest.
-use Rattle.std.proofs.Common.{◌≡◌, refl, sym, ap, ◌∙◌, subst, ℕ, Bool, true, false, cond, List, [], ◌∷◌, map, set, length, Option, Some, None, Ok, Err, map-id}
+use Rattle.std.proofs.Common.{◌≡◌, refl, sym, ap, ◌∙◌, subst, ℕ, Bool, true, false, cond, [], set, length, Option, Some, None, Ok, Err, map-id}
 use Rattle.std.specs.Prelude.{slice_get}
 use Rattle.std.specs.Bool.{then_some}
 use Rattle.std.proofs.lemmas.Option.{same_Some}
@@ -19,7 +19,7 @@ use Rattle.b1_model.specs.MachineSend.{send_refusal, begun_part, begun_nodes}
 use Rattle.b1_model.specs.MachineDriver.{peer_of, refused_at}
 use Rattle.b1_model.specs.MachineTook.{took, ended}
 use Rattle.b1_model.specs.MachineEvents.{happens, begin_by}
-use Rattle.b1_model.specs.MachineStep.{Step, Reached, with_parts, stepped, stepped_by, stepped_at, effect}
+use Rattle.b1_model.specs.MachineStep.{Reached, with_parts, stepped, stepped_by, stepped_at, effect}
 use Rattle.b1_model.specs.Script.{resolved}
 use Rattle.b1_schedule.specs.Shortage.{Shortage}
 use Rattle.b1_schedule.specs.Schedule.{beginning, with_step}
@@ -90,15 +90,16 @@ module _ (o : Opening) (m : Shortage) (p : ℕ) (s : State) (d : DriverPart) (c 
     runs : (u : State) → stepped o memory p (Some (cmd.Send c)) s ≡ Some u → WillEnd o m p target u → (t : State) × RunsWhole o m p command s t × AtRest o t target
     runs u does next =
         let e = next (reached_more o s u p (Some (cmd.Send c)) reached (step_of o memory p (Some (cmd.Send c)) s u does)) in
-        let same = steps_so u does in
-        (e.last,
-        record {
-          count = e.count;
-          leads = ap (own_steps o m p e.count) same ∙ e.leads;
-          open_before = λ n less. ap (λ w. is_open_at p (own_steps o m p n w)) same ∙ e.open_before n less;
-          over = e.over;
-        },
-        e.rests)
+        let same = steps_so u does in (
+          e.last,
+          record {
+            count = e.count;
+            leads = ap (own_steps o m p e.count) same ∙ e.leads;
+            open_before = λ n less. ap (λ w. is_open_at p (own_steps o m p n w)) same ∙ e.open_before n less;
+            over = e.over;
+          },
+          e.rests,
+        )
 
     -- refused at its begin
     pub refused_runs : (r : Reason) → begin_answer ≡ Some r → WillEnd o m p target (midway s p (ended before (cmd.Send c) (refused_at r None)) (λ y. y)) → (t : State) × RunsWhole o m p command s t × AtRest o t target

@@ -1,37 +1,32 @@
 -- The begin of a SEND at the machine: its refusals and its nodes are those of the serial bus.
-use Rattle.std.proofs.Common.{◌≡◌, refl, sym, ap, ap₂, ◌∙◌, subst, inl, inr, ℕ, zero, suc, ◌+◌, ◌<◌, ◌==◌, Bool, true, false, cond, not, nat_lt, nat_le, List, [], ◌∷◌, ◌++◌, map, filter, filter_map, fold, find, get_or, length, Option, Some, None, option_map, is_some, is_none, arith}
-use Rattle.std.specs.Prelude.{slice_get}
+use Rattle.std.proofs.Common.{◌≡◌, refl, ap, ap₂, ◌∙◌, ℕ, ◌==◌, Bool, true, false, cond, nat_lt, nat_le, List, [], ◌∷◌, map, filter, filter_map, fold, find, length, Option, Some, None, option_map, is_some, is_none}
 use Rattle.std.specs.Bool.{then_some}
 use Rattle.std.specs.List.{cons_option}
-use Rattle.std.proofs.lemmas.Bool.{eqb-true}
 use Rattle.b1_model.specs.declared.limits.TheConstants.{MOST_PAYLOAD}
-use Rattle.b1_model.specs.declared.naming.NodeRef.{NodeRef}
 use Rattle.b1_model.specs.declared.commands.SendCmd.{SendCmd}
-use Rattle.b1_model.specs.declared.parts.Begun.{Begun}
 use Rattle.b1_model.specs.declared.parts.NodeState.{NodeState}
 use Rattle.b1_model.specs.declared.parts.NodeState.TheVariants.{Live, Dying, Destroyed}
 use Rattle.b1_model.specs.declared.answers.Reason.{Reason}
 use Rattle.b1_model.specs.declared.answers.Reason.TheVariants as reason
 use Rattle.b1_model.specs.Names.{is_own, is_given}
-use Rattle.b1_model.specs.MachineParts.{PeerPart, DriverPart, HandleRecord, NodePart, no_node, node_at, is_dying, is_destroyed, clock_limit}
+use Rattle.b1_model.specs.MachineParts.{PeerPart, DriverPart, HandleRecord, NodePart, node_at, is_dying, is_destroyed, clock_limit}
 use Rattle.b1_model.specs.MachineTables as tables
 use Rattle.b1_model.specs.MachineTables.{is_number}
 use Rattle.b1_model.specs.MachineSend as machine
 use Rattle.b1_model.specs.MachineSend.{first_reason, is_bad_send, send_refusal, begun_part, begun_nodes}
 use Rattle.b1_inv_refs.proofs.Views.{Handles}
 use Rattle.b1_inv_refs.proofs.Places.{serial_within}
-use Rattle.b1_serial_bus.specs.Parts.{OwnNode, HeldLine, Part}
+use Rattle.b1_serial_bus.specs.Parts.{HeldLine}
 use Rattle.b1_serial_bus.specs.Named as named
 use Rattle.b1_serial_bus.specs.Named.{line_numbered, making}
 use Rattle.b1_serial_bus.specs.Lives.{destroyed_at}
-use Rattle.b1_serial_bus.specs.Letters.{Letter, letter_of}
+use Rattle.b1_serial_bus.specs.Letters.{letter_of}
 use Rattle.b1_serial_bus.specs.Begin as begin
 use Rattle.b1_serial_bus.specs.Begin.{begin_reasons}
 use Rattle.b1_serial_rest.specs.Standing.{stamp_of, own_of, line_under, with_line, lines_of, part_of}
 use Rattle.b1_serial_rest.proofs.Lines.{put_numbered}
 use Rattle.b1_serial_rest.proofs.Records.{lines_name}
 use Rattle.b1_serial_rest.proofs.Wires.{serial_same, node_made}
-use Rattle.b1_serial_send.proofs.Lists.{filter_append}
 use Rattle.b1_serial_send.proofs.Parts.{map_same}
 use Rattle.b1_serial_send.proofs.Answers.{first_of_more, destroyed_so}
 

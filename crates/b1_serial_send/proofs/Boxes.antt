@@ -1,9 +1,9 @@
 -- The boxes of the serial bus stay right through a SEND.
-use Rattle.std.proofs.Common.{◌≡◌, ◌≢◌, ◌⊎◌, refl, sym, ap, ap₂, ◌∙◌, subst, inl, inr, ℕ, zero, suc, ◌+◌, ◌≤◌, ◌==◌, ◌&&◌, ◌||◌, Bool, true, false, cond, not, List, [], ◌∷◌, ◌++◌, map, fold, filter, length, zip, Option, Some, None, is_some, arith}
+use Rattle.std.proofs.Common.{◌≡◌, ◌≢◌, ◌⊎◌, refl, sym, ap, ◌∙◌, subst, inl, inr, ℕ, zero, suc, ◌+◌, ◌≤◌, ◌==◌, ◌&&◌, ◌||◌, Bool, true, false, cond, not, List, [], ◌∷◌, ◌++◌, map, fold, filter, length, zip, Option, Some, None, is_some, arith}
 use Rattle.std.specs.Prelude.{slice_get}
 use Rattle.std.specs.Bool.{then_some}
 use Rattle.std.specs.List.{list_any}
-use Rattle.std.proofs.lemmas.Bool.{eqb-true, and_parts, false_from_ne_true}
+use Rattle.std.proofs.lemmas.Bool.{eqb-true, and_parts}
 use Rattle.std.proofs.lemmas.List.{length-append, append_assoc}
 use Rattle.std.proofs.lemmas.Option.{same_Some}
 use Rattle.b1_model.specs.declared.naming.Key.{Key}
@@ -20,7 +20,7 @@ use Rattle.b1_model.specs.MachinePool.{taken}
 use Rattle.b1_model.specs.MachineTables.{without}
 use Rattle.b1_model.specs.MachineSend.{first_reason}
 use Rattle.b1_step.specs.Rights.{Has}
-use Rattle.b1_step.proofs.Lists.{has_filter, has_append, has_left, has_right}
+use Rattle.b1_step.proofs.Lists.{has_filter, has_append, has_left}
 use Rattle.b1_serial_bus.specs.Parts.{OwnNode, Part, Bus, at_peer}
 use Rattle.b1_serial_bus.specs.Named.{serial_of, with_made, making}
 use Rattle.b1_serial_bus.specs.Lives.{destroyed_at, destroyed_in}
@@ -34,7 +34,7 @@ use Rattle.b1_serial_send.proofs.Charges.{count_at}
 use Rattle.b1_serial_send.proofs.Keys.{IsLast}
 use Rattle.b1_serial_send.proofs.Copies.{place_key, copy, copies}
 use Rattle.b1_serial_send.proofs.Gone.{gone_one, gone, gone_all}
-use Rattle.b1_serial_send.proofs.Delivered.{read_own, read_else, read_change, gone_all_has, slots_here, behind, delivered_read, delivered_from_lives}
+use Rattle.b1_serial_send.proofs.Delivered.{read_change, gone_all_has, slots_here, behind, delivered_read, delivered_from_lives}
 use Rattle.b1_serial_send.proofs.Ending.{at_none, delivered_none}
 
 -- ---- boxes by where their entries are from

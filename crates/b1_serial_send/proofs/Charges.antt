@@ -1,19 +1,17 @@
 -- What a letter's stages leave of a peer's part, and what they take of its pool and charge in its queue.
-use Rattle.std.proofs.Common.{◌≡◌, refl, sym, ap, ◌∙◌, ℕ, zero, suc, ◌+◌, ◌*◌, ◌==◌, Bool, true, false, cond, List, [], ◌∷◌, map, filter, length, Option, Some, None, is_none, arith}
+use Rattle.std.proofs.Common.{◌≡◌, refl, ap, ◌∙◌, ℕ, suc, ◌+◌, ◌*◌, ◌==◌, Bool, true, false, cond, List, [], ◌∷◌, map, filter, length, Option, Some, None, is_none, arith}
 use Rattle.b1_model.specs.declared.naming.Key.{Key}
 use Rattle.b1_model.specs.declared.naming.NodeRef.{NodeRef}
-use Rattle.b1_model.specs.declared.parts.Slot.{Slot}
 use Rattle.b1_model.specs.declared.entries.Entry.{Entry}
 use Rattle.b1_model.specs.declared.entries.Entry.TheVariants.{Message, OwnNotice, ForeignNotice, ReleaseNotice}
 use Rattle.b1_model.specs.declared.answers.Reason.{Reason}
 use Rattle.b1_model.specs.declared.answers.Quantity.{Quantity}
 use Rattle.b1_model.specs.MachineParts.{PeerPart, HandleRecord, Slice, key_before}
-use Rattle.b1_model.specs.MachinePool.{taken}
 use Rattle.b1_model.specs.MachineTables.{put, amount, charged}
 use Rattle.b1_model.specs.MachineSend.{staged}
 use Rattle.b1_serial_bus.specs.Letters.{Letter, letter_len}
 use Rattle.b1_serial_bus.specs.Places.{after_taken}
-use Rattle.b1_serial_send.proofs.Midway.{Answered, at_part, over, stage_at}
+use Rattle.b1_serial_send.proofs.Midway.{Answered, over, stage_at}
 
 -- how many accepted ones of some destinations are a peer's
 abbrev pub count_at : ℕ → Answered → ℕ

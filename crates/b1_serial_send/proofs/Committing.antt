@@ -1,5 +1,5 @@
 -- The stamp of a SEND, its syncs and its commits.
-use Rattle.std.proofs.Common.{◌≡◌, refl, sym, ap, ap₂, ◌∙◌, subst, ℕ, zero, suc, ◌+◌, ◌<◌, max, Bool, true, false, cond, not, List, [], ◌∷◌, ◌++◌, map, length, set, zip, get_or, Option, Some, None, arith}
+use Rattle.std.proofs.Common.{◌≡◌, refl, sym, ap, ◌∙◌, subst, ℕ, ◌+◌, true, cond, not, List, [], ◌∷◌, ◌++◌, length, set, zip, get_or, Option, Some, None, arith}
 use Rattle.std.specs.Prelude.{slice_get}
 use Rattle.std.proofs.lemmas.List.{append_assoc, append-nil, length-append}
 use Rattle.std.proofs.lemmas.Option.{get_or_from_slice_get, slice_get-get_or}
@@ -12,18 +12,16 @@ use Rattle.b1_model.specs.declared.parts.Slot.{Slot}
 use Rattle.b1_model.specs.declared.entries.Entry.{Entry}
 use Rattle.b1_model.specs.declared.answers.Reason.{Reason}
 use Rattle.b1_model.specs.declared.events.Outcome.TheVariants as out
-use Rattle.b1_model.specs.declared.events.Phase.{Phase}
 use Rattle.b1_model.specs.declared.events.Phase.TheVariants.{Starting, Stamping, Syncing, Committing}
 use Rattle.b1_model.specs.declared.events.Sending.{Sending}
 use Rattle.b1_model.specs.MachineParts.{PeerPart, DriverPart, State}
 use Rattle.b1_model.specs.MachineSend.{final_stamp, synced, find_stage, committed_by, committed, is_committed}
 use Rattle.b1_model.specs.MachineDriver.{Turn, Goes, no_ref, node_of_place, accepted_from, is_place, syncing}
 use Rattle.b1_model.specs.MachineTook.{took, turned, goes_by, ended, sent_answer}
-use Rattle.b1_model.specs.MachineStep.{effect}
-use Rattle.b1_schedule.specs.Shortage.{Shortage, is_short}
+use Rattle.b1_schedule.specs.Shortage.{Shortage}
 use Rattle.b1_serial_bus.specs.Parts.{Bus}
 use Rattle.b1_serial_bus.specs.Letters.{Letter, Places}
-use Rattle.b1_serial_send.proofs.Midway.{at_part, over, stamp_at, sync_at, commit_at, sending_driver, midway}
+use Rattle.b1_serial_send.proofs.Midway.{over, stamp_at, sync_at, commit_at, sending_driver, midway}
 use Rattle.b1_serial_send.proofs.Lists.{over_keeps, over_one, over_none}
 use Rattle.b1_serial_send.proofs.Parts.{Placed, at_keeps, map_same}
 use Rattle.b1_serial_send.proofs.Goes.{WillEnd, goes}
@@ -137,9 +135,9 @@ module _ (o : Opening) (m : Shortage) (p : ℕ) (target : Bus) (s : State) (d : 
   module _ (stamp : ℕ) (h : PeerPart → PeerPart) (h_keeps : (y : PeerPart) → (h y).me ≡ y.me)
       (slots : ℕ → List Slot)
       (owner : (before rest : Places) (to : NodeRef) → final ≡ before ++ None ∷ rest → slice_get tos (length before) ≡ Some to
-          → (x : PeerPart) × (slice_get s.peers to.owner ≡ Some x)
-          × (is_committed (over (commit_at d.me stamp slots) 0 (zip tos before) (h x)) d.me (length before) ≡ true)
-          × (get_or sending.slots (length before) [] ≡ slots to.owner)) where
+      → (x : PeerPart) × (slice_get s.peers to.owner ≡ Some x)
+      × (is_committed (over (commit_at d.me stamp slots) 0 (zip tos before) (h x)) d.me (length before) ≡ true)
+      × (get_or sending.slots (length before) [] ≡ slots to.owner)) where
     -- a part after the commits of the first places
     abbrev pub after_commits : Places → PeerPart → PeerPart
     after_commits before x = over (commit_at d.me stamp slots) 0 (zip tos before) (h x)

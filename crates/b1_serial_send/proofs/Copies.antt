@@ -1,19 +1,18 @@
 -- The messages of a letter in one peer's queue: staged, and then committed.
-use Rattle.std.proofs.Common.{◌≡◌, ◌⊎◌, refl, sym, ap, ◌∙◌, subst, inl, inr, ℕ, zero, suc, ◌+◌, ◌<◌, ◌≤◌, ◌==◌, ◌&&◌, Bool, true, false, cond, not, List, [], ◌∷◌, ◌++◌, map, find, length, zip, Option, Some, None, is_some, arith}
-use Rattle.std.proofs.lemmas.Bool.{eq-eqb, ne_eqb, eqb-true, and_right, and_left}
+use Rattle.std.proofs.Common.{◌≡◌, ◌⊎◌, refl, sym, ap, ◌∙◌, subst, inl, inr, ℕ, suc, ◌+◌, ◌<◌, ◌≤◌, ◌==◌, ◌&&◌, Bool, true, false, cond, List, [], ◌∷◌, ◌++◌, find, length, Some, None, is_some, arith}
+use Rattle.std.proofs.lemmas.Bool.{eq-eqb, ne_eqb, eqb-true, and_right}
 use Rattle.std.proofs.lemmas.List.{append_assoc, append-nil}
 use Rattle.b1_model.specs.declared.naming.Key.{Key}
 use Rattle.b1_model.specs.declared.naming.NodeRef.{NodeRef}
 use Rattle.b1_model.specs.declared.parts.Slot.{Slot}
 use Rattle.b1_model.specs.declared.entries.Entry.{Entry}
 use Rattle.b1_model.specs.declared.entries.Entry.TheVariants.{Message}
-use Rattle.b1_model.specs.declared.answers.Reason.{Reason}
-use Rattle.b1_model.specs.MachineParts.{PeerPart, Slice, key_before, is_odd, is_staged}
+use Rattle.b1_model.specs.MachineParts.{PeerPart, Slice, key_before, is_odd}
 use Rattle.b1_model.specs.MachinePool.{taken, taken_offset}
 use Rattle.b1_model.specs.MachineTables.{put, without, is_stage}
 use Rattle.b1_model.specs.MachineSend.{staged, find_stage, committed_by, committed, is_committed}
 use Rattle.b1_step.specs.Rights.{Has}
-use Rattle.b1_step.proofs.Lists.{has_append, has_left, has_right}
+use Rattle.b1_step.proofs.Lists.{has_append}
 use Rattle.b1_serial_bus.specs.Letters.{Letter, letter_len}
 use Rattle.b1_serial_bus.specs.Places.{after_taken}
 use Rattle.b1_serial_send.proofs.Midway.{Answered, over, stage_at, commit_at}
@@ -195,8 +194,8 @@ module _ (s : Letter) (stamp final : ℕ) (none : List Slot) (slots : ℕ → Li
           ≡ base ++ (tail ++ cond b (done ∷ copies s y.me final (slots y.me) (place + 1) (taken (letter_len s) slices) rest) (copies s y.me final (slots y.me) (place + 1) slices rest))
       by true own further queue =
           let next : committed y s.origin place final (slots to.owner) ≡ record y { queue = (base ++ (left (taken (letter_len s) slices) ++ tail)) ++ done ∷ [] } =
-              ap (λ q. committed y s.origin place final (slots q)) (eqb-true to.owner y.me own)
-              ∙ committed_is place to slices y base (left (taken (letter_len s) slices) ++ tail) queue (unstaged place) y.me (rest_unstaged (taken (letter_len s) slices)) (rest_last (taken (letter_len s) slices)) in
+          ap (λ q. committed y s.origin place final (slots q)) (eqb-true to.owner y.me own)
+          ∙ committed_is place to slices y base (left (taken (letter_len s) slices) ++ tail) queue (unstaged place) y.me (rest_unstaged (taken (letter_len s) slices)) (rest_last (taken (letter_len s) slices)) in
           ap (λ z. (over (commit_at s.origin final slots) (place + 1) rest z).queue) next
           ∙ further (record y { queue = (base ++ (left (taken (letter_len s) slices) ++ tail)) ++ done ∷ [] }) (taken (letter_len s) slices) base (tail ++ done ∷ [])
           (append_assoc base (left (taken (letter_len s) slices) ++ tail) (done ∷ []) ∙ ap (λ zs. base ++ zs) (append_assoc (left (taken (letter_len s) slices)) tail (done ∷ [])))

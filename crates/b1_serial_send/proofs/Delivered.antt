@@ -1,25 +1,22 @@
 -- A delivered letter, read at each peer of the serial bus.
-use Rattle.std.proofs.Common.{◌≡◌, ◌⊎◌, refl, sym, ap, ap₂, ◌∙◌, subst, inl, inr, ℕ, zero, suc, ◌+◌, ◌≤◌, ◌==◌, Bool, true, false, cond, not, List, [], ◌∷◌, ◌++◌, map, fold, filter, Option, Some, None, option_map, is_some, arith}
+use Rattle.std.proofs.Common.{◌≡◌, ◌⊎◌, refl, sym, ap, ap₂, ◌∙◌, inl, inr, ℕ, zero, suc, ◌+◌, ◌≤◌, ◌==◌, Bool, true, false, cond, not, List, [], ◌∷◌, ◌++◌, map, fold, Option, Some, None, option_map, is_some, arith}
 use Rattle.std.specs.Prelude.{slice_get}
 use Rattle.std.proofs.lemmas.Bool.{eq-eqb, ne_eqb, eqb-true, cases_eq}
 use Rattle.std.proofs.lemmas.List.{append_assoc}
-use Rattle.std.proofs.lemmas.Option.{same_Some}
 use Rattle.b1_model.specs.declared.naming.Key.{Key}
 use Rattle.b1_model.specs.declared.naming.NodeRef.{NodeRef}
 use Rattle.b1_model.specs.declared.parts.Slot.{Slot}
 use Rattle.b1_model.specs.declared.parts.Slot.TheVariants as slot
 use Rattle.b1_model.specs.declared.entries.Entry.{Entry}
-use Rattle.b1_model.specs.declared.answers.Reason.{Reason}
 use Rattle.b1_model.specs.MachineParts.{Slice, is_release_notice}
 use Rattle.b1_model.specs.MachinePool.{taken}
 use Rattle.b1_model.specs.MachineTables.{put, without, foreign}
 use Rattle.b1_step.specs.Rights.{Has}
-use Rattle.b1_step.proofs.Lists.{has_append}
 use Rattle.b1_serial_bus.specs.Parts.{OwnNode, Part, Bus, at_peer}
 use Rattle.b1_serial_bus.specs.Lives.{destroyed_in}
 use Rattle.b1_serial_bus.specs.Letters.{Letter, letter_len}
 use Rattle.b1_serial_bus.specs.Places.{after_taken}
-use Rattle.b1_serial_bus.specs.Delivery.{slot_for, message_of, with_message, without_notice, delivered, delivered_from}
+use Rattle.b1_serial_bus.specs.Delivery.{slot_for, with_message, without_notice, delivered, delivered_from}
 use Rattle.b1_serial_send.proofs.Midway.{Answered}
 use Rattle.b1_serial_send.proofs.Charges.{count_at}
 use Rattle.b1_serial_send.proofs.Keys.{IsLast, put_last, without_has}
@@ -189,14 +186,14 @@ module _ (s : Letter) (stamp : ℕ) (whole : Bus) (q : ℕ) where
       by : (b : Bool) → to.owner == q ≡ b → (1 ≤ cond b (suc (count_at q rest)) (count_at q rest) → IsLast (place_key s stamp place) y.box) → Further
           → slice_get (delivered_from s stamp (place + 1) rest (delivered s stamp place to bus)) q
           ≡ Some (with_three y (clock_after q stamp rest (cond b stamp y.clock)) (after_taken (letter_len s) (cond b (suc (count_at q rest)) (count_at q rest)) y.slices)
-              (gone_all q s.with rest (gone q to.owner s.with y.box) ++ cond b (one ∷ copies s q stamp slots_here (place + 1) (taken (letter_len s) y.slices) rest) (copies s q stamp slots_here (place + 1) y.slices rest)))
+          (gone_all q s.with rest (gone q to.owner s.with y.box) ++ cond b (one ∷ copies s q stamp slots_here (place + 1) (taken (letter_len s) y.slices) rest) (copies s q stamp slots_here (place + 1) y.slices rest)))
       by true own last_if further =
           let is_last : IsLast (place_key s stamp place) y.box = last_if (omega arith) in
           let z = with_three y stamp (taken (letter_len s) y.slices) (gone q to.owner s.with y.box ++ one ∷ []) in
           let is_z : slice_get (delivered s stamp place to bus) q ≡ Some z =
-              notices_read q to.owner s.with then (with_three y stamp (taken (letter_len s) y.slices) (y.box ++ one ∷ []))
-              (read_change to.owner q (with_message bus s stamp place to) bus y there ∙ ap (λ b. Some (cond b (with_message bus s stamp place to y) y)) own ∙ ap Some (boxed own is_last))
-              ∙ ap (λ zs. Some (with_three y stamp (taken (letter_len s) y.slices) zs)) (gone_append q to.owner s.with y.box (one ∷ []) no_release) in
+          notices_read q to.owner s.with then (with_three y stamp (taken (letter_len s) y.slices) (y.box ++ one ∷ []))
+          (read_change to.owner q (with_message bus s stamp place to) bus y there ∙ ap (λ b. Some (cond b (with_message bus s stamp place to y) y)) own ∙ ap Some (boxed own is_last))
+          ∙ ap (λ zs. Some (with_three y stamp (taken (letter_len s) y.slices) zs)) (gone_append q to.owner s.with y.box (one ∷ []) no_release) in
           further (delivered s stamp place to bus) z is_z same_then
           (λ some. next_last s stamp place one.1 (gone q to.owner s.with y.box) (gone_last (place_key s stamp place) to.owner s.with y.box is_last))
           ∙ ap (λ zs. Some (with_three y (clock_after q stamp rest stamp) (after_taken (letter_len s) (count_at q rest) (taken (letter_len s) y.slices)) zs))

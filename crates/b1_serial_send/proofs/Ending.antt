@@ -1,15 +1,13 @@
 -- A SEND that has ended: the state is at rest, where it shows the bus that is wanted and the boxes of that are right.
-use Rattle.std.proofs.Common.{◌≡◌, ◌⊎◌, refl, sym, ap, ap₂, ◌∙◌, subst, inl, inr, ℕ, zero, suc, ◌+◌, ◌==◌, Bool, true, false, cond, List, [], ◌∷◌, map, set, fold, Option, Some, None, option_map, is_some, arith}
+use Rattle.std.proofs.Common.{◌≡◌, ◌⊎◌, refl, sym, ap, ap₂, ◌∙◌, subst, inl, inr, ℕ, zero, suc, ◌+◌, ◌==◌, false, cond, List, [], ◌∷◌, map, set, fold, Option, Some, None, option_map, is_some, arith}
 use Rattle.std.specs.Prelude.{slice_get}
 use Rattle.std.proofs.lemmas.Bool.{eq-eqb, ne_eqb, cases_eq}
-use Rattle.std.proofs.lemmas.Option.{same_Some, slice_get-map}
+use Rattle.std.proofs.lemmas.Option.{slice_get-map}
 use Rattle.b1_model.specs.declared.naming.NodeRef.{NodeRef}
 use Rattle.b1_model.specs.declared.naming.Opening.{Opening}
 use Rattle.b1_model.specs.Opening.{IsOpening}
-use Rattle.b1_model.specs.declared.answers.Reason.{Reason}
 use Rattle.b1_model.specs.MachineParts.{PeerPart, DriverPart, State, is_release_notice}
 use Rattle.b1_model.specs.MachineTables.{without, foreign}
-use Rattle.b1_model.specs.MachineStep.{Reached}
 use Rattle.b1_schedule.specs.Shortage.{Shortage}
 use Rattle.b1_step.proofs.Lists.{read_same, read_other, set_cases}
 use Rattle.b1_inv.specs.Words.{IsDriver}
@@ -17,12 +15,11 @@ use Rattle.b1_serial_bus.specs.Parts.{Part, Bus, at_peer}
 use Rattle.b1_serial_bus.specs.Letters.{Letter}
 use Rattle.b1_serial_bus.specs.Delivery.{with_message, without_notice, delivered, delivered_from}
 use Rattle.b1_serial_rest.specs.Standing.{part_of, parts_of, bus_of}
-use Rattle.b1_serial_rest.specs.Rest.{BoxesRight, IsQuiet, AtRest}
-use Rattle.b1_serial_rest.specs.Whole.{is_open_at}
+use Rattle.b1_serial_rest.specs.Rest.{BoxesRight, IsQuiet}
 use Rattle.b1_serial_whole.proofs.Determined.{rests_by}
 use Rattle.b1_serial_send.proofs.Midway.{Answered, midway}
 use Rattle.b1_serial_send.proofs.Parts.{lists_same}
-use Rattle.b1_serial_send.proofs.Goes.{Ends, WillEnd}
+use Rattle.b1_serial_send.proofs.Goes.{WillEnd}
 
 -- ---- what a bus shows
 

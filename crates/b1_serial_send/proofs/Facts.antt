@@ -1,5 +1,5 @@
 -- What holds of each part of a reached state at rest, also once the sender of a SEND has made its nodes.
-use Rattle.std.proofs.Common.{◌≡◌, ◌⊎◌, refl, sym, ap, ap₂, ◌∙◌, subst, inl, inr, ℕ, zero, suc, ◌+◌, ◌<◌, ◌≤◌, ◌==◌, ◌%◌, Bool, true, false, cond, List, [], ◌∷◌, ◌++◌, map, filter, fold, get_or, length, replicate, Option, Some, None, option_map, is_some, is_none, arith}
+use Rattle.std.proofs.Common.{◌≡◌, refl, sym, ap, ◌∙◌, subst, inl, inr, ℕ, zero, suc, ◌+◌, ◌<◌, ◌≤◌, ◌==◌, ◌%◌, Bool, true, false, cond, List, [], ◌∷◌, ◌++◌, filter, fold, get_or, length, replicate, Option, Some, None, option_map, arith}
 use Rattle.std.specs.Prelude.{slice_get}
 use Rattle.std.proofs.lemmas.Bool.{eq-eqb, eqb-true, false_from_ne_true, cases_lt}
 use Rattle.std.proofs.lemmas.List.{get_or_past}
@@ -8,7 +8,6 @@ use Rattle.b1_model.specs.declared.naming.Key.{Key}
 use Rattle.b1_model.specs.declared.naming.NodeRef.{NodeRef}
 use Rattle.b1_model.specs.declared.naming.Opening.{Opening}
 use Rattle.b1_model.specs.Opening.{IsOpening}
-use Rattle.b1_model.specs.declared.commands.Command.{Command}
 use Rattle.b1_model.specs.declared.commands.SendCmd.{SendCmd}
 use Rattle.b1_model.specs.declared.parts.NodeState.{NodeState}
 use Rattle.b1_model.specs.declared.parts.NodeState.TheVariants.{Live, Dying, Destroyed}
@@ -26,13 +25,13 @@ use Rattle.b1_inv.specs.Sound.{IsSound}
 use Rattle.b1_inv_record.specs.Right.{IsRight}
 use Rattle.b1_law.proofs.Reached.{reached_sound}
 use Rattle.b1_legal.proofs.Reached.{reached_right}
-use Rattle.b1_serial_bus.specs.Parts.{Part, Bus, at_peer}
+use Rattle.b1_serial_bus.specs.Parts.{Bus, at_peer}
 use Rattle.b1_serial_bus.specs.Named.{making}
-use Rattle.b1_serial_rest.specs.Standing.{part_of, bus_of}
-use Rattle.b1_serial_rest.specs.Rest.{IsQuiet, AtRest}
-use Rattle.b1_serial_send.proofs.Midway.{at_part, with_begin, midway}
-use Rattle.b1_serial_send.proofs.Parts.{Placed, at_keeps, at_own, at_other}
-use Rattle.b1_serial_send.proofs.Keys.{NonePass, without_none}
+use Rattle.b1_serial_rest.specs.Standing.{part_of}
+use Rattle.b1_serial_rest.specs.Rest.{AtRest}
+use Rattle.b1_serial_send.proofs.Midway.{with_begin, midway}
+use Rattle.b1_serial_send.proofs.Parts.{Placed, at_keeps}
+use Rattle.b1_serial_send.proofs.Keys.{without_none}
 use Rattle.b1_serial_send.proofs.Gone.{ReleasesRight}
 use Rattle.b1_serial_send.proofs.Delivered.{read_change}
 use Rattle.b1_serial_send.proofs.Ending.{bus_there}
@@ -147,14 +146,15 @@ module _ {o : Opening} {s : State} {bus : Bus} (opens : IsOpening o) (reached : 
 
     -- the facts of a part of which the release notices speak
     pub begun_releases : (q : ℕ) (x : PeerPart) → IsPeer s q x → ReleasesRight (with_begin p c x)
-    begun_releases q x is j =
-        (begun_living q x is j,
-        λ dead. ap (without (is_release_notice j)) (begun_queue x)
-            ∙ without_none (is_release_notice j) x.queue (λ f there. false_from_ne_true (is_release_notice j f) (λ of.
-                let live = noticed_live q x is j f there of in
-                let both : true ≡ false = sym dead ∙ ap is_destroyed (live_stays x j live) ∙ live_not_destroyed (node_at x j).state live in
-                absurd (cc both)))
-            ∙ sym (begun_queue x))
+    begun_releases q x is j = (
+      begun_living q x is j,
+      λ dead. ap (without (is_release_notice j)) (begun_queue x)
+          ∙ without_none (is_release_notice j) x.queue (λ f there. false_from_ne_true (is_release_notice j f) (λ of.
+          let live = noticed_live q x is j f there of in
+          let both : true ≡ false = sym dead ∙ ap is_destroyed (live_stays x j live) ∙ live_not_destroyed (node_at x j).state live in
+          absurd (cc both)))
+          ∙ sym (begun_queue x),
+    )
 
     pub begun_quiet : (q : ℕ) (x : PeerPart) → IsPeer s q x → (f : Key × Entry) → Has (with_begin p c x).queue f → is_staged f ≡ false
     begun_quiet q x is f there = rest.quiet.committed q x f is (subst (λ zs. Has zs f) (begun_queue x) there)

@@ -1,5 +1,5 @@
 -- What a SEND makes of one peer's part, field by field.
-use Rattle.std.proofs.Common.{◌≡◌, ◌⊎◌, refl, sym, ap, ap₂, ◌∙◌, subst, inl, inr, ℕ, zero, suc, ◌+◌, ◌<◌, ◌≤◌, ◌==◌, ◌&&◌, max, Bool, true, false, cond, List, [], ◌∷◌, ◌++◌, map, fold, get_or, set, length, zip, Option, Some, None, zero-add, arith}
+use Rattle.std.proofs.Common.{◌≡◌, refl, sym, ap, ap₂, ◌∙◌, subst, inl, inr, ℕ, zero, suc, ◌+◌, ◌<◌, ◌≤◌, ◌==◌, ◌&&◌, max, Bool, true, false, cond, List, [], ◌∷◌, ◌++◌, map, get_or, length, Option, Some, None, zero-add, arith}
 use Rattle.std.proofs.lemmas.Bool.{eq-eqb}
 use Rattle.std.proofs.lemmas.List.{append-nil}
 use Rattle.b1_model.specs.declared.naming.Key.{Key}
@@ -8,19 +8,18 @@ use Rattle.b1_model.specs.declared.parts.Attach.{Attach}
 use Rattle.b1_model.specs.declared.parts.Attach.TheVariants as attach
 use Rattle.b1_model.specs.declared.parts.Slot.{Slot}
 use Rattle.b1_model.specs.declared.entries.Entry.{Entry}
-use Rattle.b1_model.specs.declared.answers.Reason.{Reason}
-use Rattle.b1_model.specs.MachineParts.{PeerPart, DriverPart, NodePart, HandleRecord, Slice, no_node, no_record, node_at, key_before, same_ref, ref_before, is_data, is_staged, is_odd, is_dying, is_destroyed, is_release_notice}
+use Rattle.b1_model.specs.MachineParts.{PeerPart, DriverPart, NodePart, HandleRecord, Slice, no_node, no_record, key_before, same_ref, ref_before, is_data, is_staged, is_odd, is_dying, is_destroyed, is_release_notice}
 use Rattle.b1_model.specs.MachinePool.{taken}
 use Rattle.b1_model.specs.MachineTables.{with_node, counted, without, is_stage, foreign, expected, changed_or_made, more_flight}
 use Rattle.b1_model.specs.MachineSend.{staged, attach_answer, attached_by, attached, synced, find_stage, committed_by, committed, is_committed}
 use Rattle.b1_step.specs.Rights.{Has}
-use Rattle.b1_serial_bus.specs.Parts.{OwnNode, Part}
+use Rattle.b1_serial_bus.specs.Parts.{Part}
 use Rattle.b1_serial_bus.specs.Letters.{Letter, letter_len}
 use Rattle.b1_serial_bus.specs.Places.{after_taken}
 use Rattle.b1_serial_rest.specs.Standing.{own_of, with_line, lines_of, part_of}
-use Rattle.b1_serial_send.proofs.Midway.{Answered, at_part, over, stage_at, attach_at, attach_all, stamp_at, sync_at, commit_at}
+use Rattle.b1_serial_send.proofs.Midway.{Answered, over, stage_at, attach_at, attach_all, stamp_at, sync_at, commit_at}
 use Rattle.b1_serial_send.proofs.Lists.{over_keeps}
-use Rattle.b1_serial_send.proofs.Parts.{at_keeps, at_other}
+use Rattle.b1_serial_send.proofs.Parts.{at_keeps}
 use Rattle.b1_serial_send.proofs.Charges.{count_at, stages_take}
 use Rattle.b1_serial_send.proofs.Attaching.{no_slots, attach_me, attaches_keep}
 use Rattle.b1_serial_send.proofs.Keys.{before_stamp, not_back, IsLast, NonePass, without_none, without_append}
@@ -201,13 +200,14 @@ module _ (s : Letter) (ds : Answered) (stamp : ℕ) (slots : ℕ → List Slot) 
   me_staged = over_keeps (λ z. z.me) (stage_at s) (λ place to x. at_keeps (λ z. z.me) to.owner (λ z. staged z s.origin s.user place to.serial s.payload s.with) x refl) 0 ds y
 
   releases_staged : ReleasesRight (after_stages s ds stamp slots y)
-  releases_staged j =
-      (ap (λ ns. is_dying (get_or ns j no_node).state) nodes_staged ∙ (releases j).0,
-      λ dead. ap (without (is_release_notice j)) queue_staged
-          ∙ without_append (is_release_notice j) y.queue staged_copies
-          ∙ ap (λ zs. zs ++ without (is_release_notice j) staged_copies) ((releases j).1 (sym (ap (λ ns. is_destroyed (get_or ns j no_node).state) nodes_staged) ∙ dead))
-          ∙ ap (λ zs. y.queue ++ zs) (without_none (is_release_notice j) staged_copies (no_releases j))
-          ∙ sym queue_staged)
+  releases_staged j = (
+    ap (λ ns. is_dying (get_or ns j no_node).state) nodes_staged ∙ (releases j).0,
+    λ dead. ap (without (is_release_notice j)) queue_staged
+        ∙ without_append (is_release_notice j) y.queue staged_copies
+        ∙ ap (λ zs. zs ++ without (is_release_notice j) staged_copies) ((releases j).1 (sym (ap (λ ns. is_destroyed (get_or ns j no_node).state) nodes_staged) ∙ dead))
+        ∙ ap (λ zs. y.queue ++ zs) (without_none (is_release_notice j) staged_copies (no_releases j))
+        ∙ sym queue_staged,
+  )
 
   queue_synced : (after_syncs s ds stamp slots y).queue ≡ base ++ staged_copies
   queue_synced =

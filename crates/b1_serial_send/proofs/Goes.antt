@@ -1,5 +1,5 @@
 -- One step of a SEND that is under way while no other driver does a step.
-use Rattle.std.proofs.Common.{◌≡◌, refl, sym, ap, ◌∙◌, subst, ℕ, zero, suc, ◌<◌, Bool, true, false, is_some, List, [], ◌∷◌, map, set, Option, Some, None, arith}
+use Rattle.std.proofs.Common.{◌≡◌, ap, ◌∙◌, ℕ, zero, suc, ◌<◌, Bool, true, false, is_some, map, set, Some, None, arith}
 use Rattle.std.specs.Prelude.{slice_get}
 use Rattle.std.proofs.lemmas.List.{set-set}
 use Rattle.b1_model.specs.declared.naming.Opening.{Opening}

@@ -1,12 +1,11 @@
 -- The release notices that the attaches of a SEND take out of a queue.
-use Rattle.std.proofs.Common.{◌≡◌, ◌⊎◌, refl, sym, ap, ap₂, ◌∙◌, subst, inl, inr, ℕ, zero, suc, ◌+◌, ◌==◌, Bool, true, false, cond, not, List, [], ◌∷◌, ◌++◌, fold, filter, Option, Some, None, arith}
+use Rattle.std.proofs.Common.{◌≡◌, refl, sym, ap, ap₂, ◌∙◌, ℕ, ◌+◌, ◌==◌, Bool, true, false, cond, not, List, [], ◌∷◌, ◌++◌, fold, Some, None}
 use Rattle.std.proofs.lemmas.Bool.{eqb-true}
 use Rattle.b1_model.specs.declared.naming.Key.{Key}
 use Rattle.b1_model.specs.declared.naming.NodeRef.{NodeRef}
 use Rattle.b1_model.specs.declared.parts.NodeState.{NodeState}
 use Rattle.b1_model.specs.declared.parts.NodeState.TheVariants.{Live, Dying, Destroyed}
 use Rattle.b1_model.specs.declared.entries.Entry.{Entry}
-use Rattle.b1_model.specs.declared.answers.Reason.{Reason}
 use Rattle.b1_model.specs.MachineParts.{PeerPart, node_at, is_dying, is_destroyed, is_release_notice}
 use Rattle.b1_model.specs.MachineTables.{without}
 use Rattle.b1_model.specs.MachineSend.{attach_by, attached_by, attached}
@@ -103,12 +102,13 @@ attach_queue dest node y right = by (node.owner == y.me) refl (node_at y node.se
 attach_right : (dest : ℕ) (node : NodeRef) (y : PeerPart) → ReleasesRight y → ReleasesRight (attach_at dest node y)
 attach_right dest node y right j =
     let same = attach_state dest node y j in
-    let queue = attach_queue dest node y right in
-    (ap is_dying same ∙ (right j).0,
-    λ dead. ap (without (is_release_notice j)) queue
-        ∙ gone_one_without (is_release_notice j) y.me dest node y.queue
-        ∙ ap (gone_one y.me dest node) ((right j).1 (sym (ap is_destroyed same) ∙ dead))
-        ∙ sym queue)
+    let queue = attach_queue dest node y right in (
+      ap is_dying same ∙ (right j).0,
+      λ dead. ap (without (is_release_notice j)) queue
+          ∙ gone_one_without (is_release_notice j) y.me dest node y.queue
+          ∙ ap (gone_one y.me dest node) ((right j).1 (sym (ap is_destroyed same) ∙ dead))
+          ∙ sym queue,
+    )
 
 pub attach_all_queue : (dest : ℕ) (nodes : List NodeRef) (y : PeerPart) → ReleasesRight y → ((fold (λ z node. attach_at dest node z) y nodes).queue ≡ gone y.me dest nodes y.queue) × ReleasesRight (fold (λ z node. attach_at dest node z) y nodes)
 attach_all_queue dest [] y right = (refl, right)

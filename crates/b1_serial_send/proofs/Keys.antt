@@ -1,6 +1,6 @@
 -- Keys that come last in a queue, and entries that are found in one.
-use Rattle.std.proofs.Common.{◌≡◌, refl, sym, ap, ◌∙◌, inl, inr, ℕ, ◌+◌, ◌<◌, ◌==◌, ◌&&◌, ◌||◌, Bool, true, false, cond, not, nat_lt, List, [], ◌∷◌, ◌++◌, filter, find, Some, None, arith}
-use Rattle.std.proofs.lemmas.Bool.{lt-ltb, eq-eqb, false_from_ne_true, or_left, or_right, and_from}
+use Rattle.std.proofs.Common.{◌≡◌, refl, sym, ap, ◌∙◌, inl, inr, ◌<◌, Bool, true, false, cond, not, List, [], ◌∷◌, ◌++◌, find, Some, arith}
+use Rattle.std.proofs.lemmas.Bool.{false_from_ne_true}
 use Rattle.b1_model.specs.declared.naming.Key.{Key}
 use Rattle.b1_model.specs.declared.entries.Entry.{Entry}
 use Rattle.b1_model.specs.MachineParts.{key_before}

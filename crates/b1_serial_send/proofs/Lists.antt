@@ -1,5 +1,5 @@
 -- Lists of destinations and their answers, one answer after another.
-use Rattle.std.proofs.Common.{◌≡◌, refl, sym, ap, ◌∙◌, subst, ℕ, zero, suc, ◌+◌, max, Bool, true, false, cond, not, List, [], ◌∷◌, ◌++◌, map, filter, filter_map, fold, length, zip, get_or, Option, Some, None, is_none, arith}
+use Rattle.std.proofs.Common.{◌≡◌, refl, sym, ap, ◌∙◌, ℕ, suc, ◌+◌, max, Bool, true, false, cond, List, [], ◌∷◌, ◌++◌, map, filter, fold, length, zip, Option, Some, None, is_none, arith}
 use Rattle.std.specs.Prelude.{slice_get}
 use Rattle.b1_model.specs.declared.naming.NodeRef.{NodeRef}
 use Rattle.b1_model.specs.declared.answers.Reason.{Reason}

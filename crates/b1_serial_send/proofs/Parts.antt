@@ -1,9 +1,9 @@
 -- Parts that change at one peer, read at each.
-use Rattle.std.proofs.Common.{◌≡◌, ◌≢◌, ◌⊎◌, refl, sym, ap, ◌∙◌, subst, inl, inr, ℕ, zero, suc, ◌==◌, Bool, true, false, cond, List, [], ◌∷◌, map, set, Option, Some, None, option_map}
+use Rattle.std.proofs.Common.{◌≡◌, ◌⊎◌, refl, sym, ap, ◌∙◌, subst, inl, inr, ℕ, zero, suc, ◌==◌, true, false, cond, List, [], ◌∷◌, map, set, Option, Some, None, option_map}
 use Rattle.std.specs.Prelude.{slice_get}
 use Rattle.std.proofs.lemmas.Bool.{eq-eqb, ne_eqb, cases_eq}
 use Rattle.std.proofs.lemmas.Option.{same_Some, slice_get-map}
-use Rattle.b1_model.specs.MachineParts.{PeerPart, DriverPart}
+use Rattle.b1_model.specs.MachineParts.{PeerPart}
 use Rattle.b1_step.proofs.Lists.{read_same, read_other}
 use Rattle.b1_serial_send.proofs.Midway.{at_part}
 

@@ -1,5 +1,5 @@
 -- A SEND that is refused, where all parts are as they were, or with the nodes of its begin.
-use Rattle.std.proofs.Common.{◌≡◌, refl, sym, ap, ◌∙◌, ℕ, zero, suc, ◌+◌, ◌==◌, Bool, true, false, cond, List, [], ◌∷◌, zip, Option, Some, None, arith}
+use Rattle.std.proofs.Common.{◌≡◌, refl, sym, ap, ◌∙◌, ℕ, ◌+◌, ◌==◌, Bool, true, false, cond, List, [], ◌∷◌, zip, Some, None}
 use Rattle.std.specs.Prelude.{slice_get}
 use Rattle.std.proofs.lemmas.Bool.{eqb-true}
 use Rattle.std.proofs.lemmas.Option.{same_Some}
@@ -13,7 +13,7 @@ use Rattle.b1_model.specs.declared.events.Phase.TheVariants.{Starting}
 use Rattle.b1_model.specs.MachineParts.{PeerPart, DriverPart, State}
 use Rattle.b1_model.specs.MachineTook.{ended}
 use Rattle.b1_schedule.specs.Shortage.{Shortage}
-use Rattle.b1_serial_bus.specs.Parts.{Part, Bus, at_peer, called}
+use Rattle.b1_serial_bus.specs.Parts.{Bus, at_peer, called}
 use Rattle.b1_serial_bus.specs.Letters.{Places}
 use Rattle.b1_serial_rest.specs.Standing.{part_of, bus_of}
 use Rattle.b1_serial_rest.specs.Rest.{IsQuiet, BoxesRight}

@@ -1,5 +1,5 @@
 -- A whole SEND of a peer that hasn't disconnected, from a state at rest to one at rest.
-use Rattle.std.proofs.Common.{◌≡◌, refl, sym, ap, ap₂, ◌∙◌, subst, ℕ, ◌<◌, ◌+◌, Bool, true, false, cond, List, [], ◌∷◌, ◌++◌, length, Option, Some, None}
+use Rattle.std.proofs.Common.{◌≡◌, sym, ap, ◌∙◌, subst, ℕ, true, false, cond, length, Some, None}
 use Rattle.std.specs.Prelude.{slice_get}
 use Rattle.b1_model.specs.declared.naming.Opening.{Opening}
 use Rattle.b1_model.specs.Opening.{IsOpening}

@@ -1,9 +1,8 @@
 -- A SEND that some destination accepted, from its last stage on to its end at rest.
-use Rattle.std.proofs.Common.{◌≡◌, ◌⊎◌, refl, sym, ap, ap₂, ◌∙◌, subst, inl, inr, ℕ, zero, suc, ◌+◌, ◌<◌, ◌≤◌, ◌==◌, ◌&&◌, ◌%◌, max, Bool, true, false, cond, nat_lt, List, [], ◌∷◌, ◌++◌, map, fold, filter_map, length, set, zip, get_or, Option, Some, None, arith}
+use Rattle.std.proofs.Common.{◌≡◌, refl, sym, ap, ap₂, ◌∙◌, subst, ℕ, ◌+◌, ◌<◌, ◌≤◌, ◌==◌, ◌&&◌, ◌%◌, max, Bool, true, false, cond, nat_lt, List, [], ◌∷◌, ◌++◌, map, fold, filter_map, length, set, zip, get_or, Option, Some, None, arith}
 use Rattle.std.specs.Prelude.{slice_get}
-use Rattle.std.proofs.lemmas.Bool.{lt-ltb, eq-eqb, eqb-true, false_from_ne_true}
-use Rattle.std.proofs.lemmas.Option.{same_Some, get_or_from_slice_get}
-use Rattle.b1_model.specs.declared.naming.Key.{Key}
+use Rattle.std.proofs.lemmas.Bool.{lt-ltb, eqb-true}
+use Rattle.std.proofs.lemmas.Option.{same_Some}
 use Rattle.b1_model.specs.declared.naming.NodeRef.{NodeRef}
 use Rattle.b1_model.specs.declared.naming.Opening.{Opening}
 use Rattle.b1_model.specs.Opening.{IsOpening}
@@ -11,10 +10,7 @@ use Rattle.b1_model.specs.declared.commands.Command.TheVariants as cmd
 use Rattle.b1_model.specs.declared.commands.SendCmd.{SendCmd}
 use Rattle.b1_model.specs.declared.parts.Begun.{Begun}
 use Rattle.b1_model.specs.declared.parts.Slot.{Slot}
-use Rattle.b1_model.specs.declared.entries.Entry.{Entry}
 use Rattle.b1_model.specs.declared.answers.Answer.TheVariants as ans
-use Rattle.b1_model.specs.declared.answers.Reason.{Reason}
-use Rattle.b1_model.specs.declared.events.Phase.{Phase}
 use Rattle.b1_model.specs.declared.events.Phase.TheVariants.{Starting, Attaching, Stamping, Committing}
 use Rattle.b1_model.specs.declared.events.Sending.{Sending}
 use Rattle.b1_model.specs.MachineParts.{PeerPart, DriverPart, State, no_node, is_odd, node_at, is_dying}
@@ -29,12 +25,12 @@ use Rattle.b1_step.proofs.Lists.{has_at}
 use Rattle.b1_law.proofs.Reached.{reached_sound}
 use Rattle.b1_serial_bus.specs.Parts.{Part, Bus, at_peer, called}
 use Rattle.b1_serial_bus.specs.Lives.{destroyed_in}
-use Rattle.b1_serial_bus.specs.Letters.{Letter, Places, letter_len, accepted, clock_at}
+use Rattle.b1_serial_bus.specs.Letters.{Letter, Places, accepted, clock_at}
 use Rattle.b1_serial_bus.specs.Delivery.{slot_for, delivered_from}
 use Rattle.b1_serial_rest.specs.Standing.{part_of, bus_of}
 use Rattle.b1_serial_rest.specs.Rest.{BoxesRight, AtRest}
 use Rattle.b1_serial_rest.proofs.Shown.{boxes_same}
-use Rattle.b1_serial_send.proofs.Midway.{Answered, at_part, with_begin, over, stage_at, attach_at, attach_all, stamp_at, sync_at, commit_at, sending_driver, midway}
+use Rattle.b1_serial_send.proofs.Midway.{Answered, with_begin, over, stage_at, attach_at, attach_all, stamp_at, sync_at, commit_at, sending_driver, midway}
 use Rattle.b1_serial_send.proofs.Lists.{over_keeps, zip_len}
 use Rattle.b1_serial_send.proofs.Parts.{at_keeps, at_own, map_same, read_map}
 use Rattle.b1_serial_send.proofs.Goes.{WillEnd}
@@ -50,7 +46,7 @@ use Rattle.b1_serial_send.proofs.Finals as final_part
 use Rattle.b1_serial_send.proofs.Ending.{bus_none, bus_same, at_none, delivered_none, ends_here}
 use Rattle.b1_serial_send.proofs.Boxes.{AreAlive, making_boxes, letter_boxes}
 use Rattle.b1_serial_send.proofs.Stamps.{is_any, any_is, collected_by, collected_once, stamps_same, fold_above, fold_has, count_has, accepted_has, map_has, zip_split}
-use Rattle.b1_serial_send.proofs.Facts.{placed, beside, begun_living, begun_me, begun_clock, begun_quiet, begun_low, begun_odd, begun_releases, begun_bus, begun_there}
+use Rattle.b1_serial_send.proofs.Facts.{placed, beside, begun_me, begun_quiet, begun_low, begun_odd, begun_releases, begun_bus, begun_there}
 
 -- the clock at the end of the destinations, where it is the stamp at their beginning
 stamp_stays : (q stamp : ℕ) (ds : Answered) → clock_after q stamp ds stamp ≡ stamp
@@ -252,13 +248,15 @@ module _ {o : Opening} {s : State} {bus : Bus} (opens : IsOpening o) (reached : 
         owner before more to all is_to =
             let there = place_there before to is_to in
             let split = zip_split begun.to before None more to is_to in
-            let y = there.0 in
-            (y, there.2,
-            ap (λ i. is_committed (over (commit_at d.me stamp slots) 0 (zip begun.to before) (over (sync_at stamp) 0 ds (stamp_at d.me stamp (attached_part y)))) d.me i) (sym (zip_len begun.to before to is_to))
-            ∙ found_is letter ds stamp slots (f y) (begun_quiet opens reached rest d.me c to.owner y there.2) (begun_low opens reached rest d.me c to.owner y there.2) (begun_releases opens reached rest d.me c to.owner y there.2) (begun_odd opens reached rest d.me c to.owner y there.2) even
-            (λ some. high to.owner y (beside opens reached rest to.owner y there.2).0 there.2 (beside opens reached rest to.owner y there.2).1 (subst (λ k. 1 ≤ count_at k ds) (me_of to.owner y there.2) some))
-            (zip begun.to before) split.0 to (ap (zip begun.to) all ∙ split.1) (sym (me_of to.owner y there.2)),
-            ap (λ zs. get_or (rows with_nodes begun.with begun.to zs) (length before) []) all ∙ rows_at with_nodes begun.with begun.to before more to is_to)
+            let y = there.0 in (
+              y,
+              there.2,
+              ap (λ i. is_committed (over (commit_at d.me stamp slots) 0 (zip begun.to before) (over (sync_at stamp) 0 ds (stamp_at d.me stamp (attached_part y)))) d.me i) (sym (zip_len begun.to before to is_to))
+                  ∙ found_is letter ds stamp slots (f y) (begun_quiet opens reached rest d.me c to.owner y there.2) (begun_low opens reached rest d.me c to.owner y there.2) (begun_releases opens reached rest d.me c to.owner y there.2) (begun_odd opens reached rest d.me c to.owner y there.2) even
+                  (λ some. high to.owner y (beside opens reached rest to.owner y there.2).0 there.2 (beside opens reached rest to.owner y there.2).1 (subst (λ k. 1 ≤ count_at k ds) (me_of to.owner y there.2) some))
+                  (zip begun.to before) split.0 to (ap (zip begun.to) all ∙ split.1) (sym (me_of to.owner y there.2)),
+              ap (λ zs. get_or (rows with_nodes begun.with begun.to zs) (length before) []) all ∙ rows_at with_nodes begun.with begun.to before more to is_to,
+            )
 
     -- from the stamp on
     stamps : At attached_part (Goes (Stamping sending))

@@ -1,12 +1,12 @@
 -- The stamp of a SEND, and which of its places were accepted.
-use Rattle.std.proofs.Common.{◌≡◌, ◌⊎◌, refl, sym, ap, ap₂, ◌∙◌, subst, inl, inr, ℕ, zero, suc, ◌+◌, ◌<◌, ◌≤◌, ◌==◌, max, Bool, true, false, cond, not, nat_lt, nat_le, List, [], ◌∷◌, ◌++◌, map, fold, filter, filter_map, length, zip, Option, Some, None, is_none, arith}
+use Rattle.std.proofs.Common.{◌≡◌, refl, sym, ap, ◌∙◌, inl, inr, ℕ, suc, ◌+◌, ◌≤◌, ◌==◌, max, Bool, true, false, cond, not, nat_lt, List, [], ◌∷◌, ◌++◌, map, fold, filter, length, zip, Option, Some, None, is_none, arith}
 use Rattle.std.specs.Prelude.{slice_get}
-use Rattle.std.proofs.lemmas.Bool.{lt-ltb, le-leb, ltb-true, false_from_ne_true, eqb-true}
+use Rattle.std.proofs.lemmas.Bool.{lt-ltb, le-leb, false_from_ne_true, eqb-true}
 use Rattle.b1_model.specs.declared.naming.NodeRef.{NodeRef}
 use Rattle.b1_model.specs.declared.answers.Reason.{Reason}
 use Rattle.b1_model.specs.MachineDriver.{next_accepted, accepted_from, is_place}
 use Rattle.b1_step.specs.Rights.{Has}
-use Rattle.b1_serial_bus.specs.Letters.{Letter, Places, accepted}
+use Rattle.b1_serial_bus.specs.Letters.{Places}
 use Rattle.b1_serial_send.proofs.Midway.{Answered}
 use Rattle.b1_serial_send.proofs.Lists.{max_twice, fold_max, fold_append}
 use Rattle.b1_serial_send.proofs.Charges.{count_at}

@@ -1,38 +1,35 @@
 -- A SEND that is refused without CONTINUE ends at rest: what it staged is as if it had never been.
-use Rattle.std.proofs.Common.{◌≡◌, refl, sym, ap, ap₂, ◌∙◌, subst, ℕ, zero, suc, ◌+◌, ◌<◌, ◌≤◌, ◌==◌, ◌&&◌, Bool, true, false, cond, List, [], ◌∷◌, ◌++◌, length, zip, Option, Some, None, zero-add, arith}
+use Rattle.std.proofs.Common.{◌≡◌, refl, sym, ap, ap₂, ◌∙◌, subst, ℕ, ◌+◌, ◌<◌, ◌==◌, ◌&&◌, Bool, true, false, cond, List, [], ◌∷◌, ◌++◌, length, zip, Option, Some, None, zero-add, arith}
 use Rattle.std.specs.Prelude.{slice_get}
 use Rattle.std.proofs.lemmas.Bool.{eqb-true}
 use Rattle.std.proofs.lemmas.List.{length-append, append-nil}
 use Rattle.std.proofs.lemmas.Option.{same_Some}
-use Rattle.b1_model.specs.declared.naming.Key.{Key}
 use Rattle.b1_model.specs.declared.naming.NodeRef.{NodeRef}
 use Rattle.b1_model.specs.declared.naming.Opening.{Opening}
 use Rattle.b1_model.specs.Opening.{IsOpening}
 use Rattle.b1_model.specs.declared.commands.Command.TheVariants as cmd
 use Rattle.b1_model.specs.declared.commands.SendCmd.{SendCmd}
 use Rattle.b1_model.specs.declared.parts.Begun.{Begun}
-use Rattle.b1_model.specs.declared.entries.Entry.{Entry}
 use Rattle.b1_model.specs.declared.answers.Answer.{Answer}
 use Rattle.b1_model.specs.declared.answers.Reason.{Reason}
 use Rattle.b1_model.specs.declared.records.Call.{Call}
-use Rattle.b1_model.specs.MachineParts.{PeerPart, DriverPart, State, is_data, is_staged, node_at, is_dying}
+use Rattle.b1_model.specs.MachineParts.{PeerPart, DriverPart, State, is_data}
 use Rattle.b1_model.specs.MachineTables.{is_stage}
 use Rattle.b1_model.specs.MachineSend.{staged, begun_part, begun_nodes}
-use Rattle.b1_model.specs.MachineDriver.{Turn, refused_at, accepted_from, unstaging}
+use Rattle.b1_model.specs.MachineDriver.{refused_at, accepted_from, unstaging}
 use Rattle.b1_model.specs.declared.events.Phase.TheVariants.{Starting}
-use Rattle.b1_model.specs.MachineTook.{ended, driver_calls}
+use Rattle.b1_model.specs.MachineTook.{ended}
 use Rattle.b1_model.specs.MachineEvents.{user_of}
 use Rattle.b1_model.specs.MachineStep.{Reached}
 use Rattle.b1_schedule.specs.Shortage.{Shortage}
 use Rattle.b1_step.specs.Rights.{Has}
 use Rattle.b1_step.proofs.Lists.{has_at}
-use Rattle.b1_inv.specs.Words.{IsPeer, IsDriver}
 use Rattle.b1_inv_refs.proofs.Numbered.{EachRecord}
 use Rattle.b1_inv_record.specs.Epochs.{flushed_calls}
 use Rattle.b1_legal.proofs.Reached.{reached_right}
 use Rattle.b1_inv_slices.specs.Slices.{kept_from, kept_len, received_len}
 use Rattle.b1_inv_slices.proofs.Kept.{reached_kept}
-use Rattle.b1_serial_bus.specs.Parts.{Part, Bus, at_peer, called}
+use Rattle.b1_serial_bus.specs.Parts.{Bus, at_peer, called}
 use Rattle.b1_serial_bus.specs.Letters.{Letter, Places}
 use Rattle.b1_serial_bus.specs.Send.{first_refusal, send_refusal}
 use Rattle.b1_serial_rest.specs.Standing.{part_of}
@@ -52,7 +49,7 @@ use Rattle.b1_serial_send.proofs.Boxes.{making_boxes}
 use Rattle.b1_serial_send.proofs.RefusedEnd.{refused_ends}
 use Rattle.b1_serial_send.proofs.Pools.{pools_same}
 use Rattle.b1_serial_send.proofs.Unstaging.{unstage_keeps, IsHeld, stages_held, unstages_bare, unstages_queue, unstages_go}
-use Rattle.b1_serial_send.proofs.Facts.{sound, right, placed, begun_me, begun_clock, begun_queue, begun_quiet, begun_low, begun_odd, begun_bus, begun_there}
+use Rattle.b1_serial_send.proofs.Facts.{sound, right, placed, begun_me, begun_queue, begun_quiet, begun_low, begun_odd, begun_bus, begun_there}
 use Rattle.b1_serial_send.proofs.Assembled.{final, wanted, missing, wanted_by, refusal_behind}
 
 -- ---- what was received

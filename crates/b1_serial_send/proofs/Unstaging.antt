@@ -1,7 +1,7 @@
 -- A SEND that is refused at a place without CONTINUE takes back what it staged.
-use Rattle.std.proofs.Common.{◌≡◌, ◌⊎◌, refl, sym, ap, ap₂, ◌∙◌, subst, inl, inr, ℕ, zero, suc, ◌+◌, ◌<◌, ◌≤◌, ◌==◌, ◌&&◌, ◌||◌, ◌-◌, nat_lt, Bool, true, false, cond, List, [], ◌∷◌, ◌++◌, map, fold, find, length, set, zip, get_or, Option, Some, None, is_some, arith}
+use Rattle.std.proofs.Common.{◌≡◌, refl, sym, ap, ◌∙◌, subst, inl, inr, ℕ, ◌+◌, ◌≤◌, ◌==◌, ◌&&◌, ◌||◌, ◌-◌, nat_lt, Bool, true, false, cond, List, [], ◌∷◌, ◌++◌, find, length, set, zip, get_or, Option, Some, None, arith}
 use Rattle.std.specs.Prelude.{slice_get}
-use Rattle.std.proofs.lemmas.Bool.{eqb-true, eq-eqb, ne_eqb, lt-ltb, and_right}
+use Rattle.std.proofs.lemmas.Bool.{eq-eqb, ne_eqb, lt-ltb, and_right}
 use Rattle.std.proofs.lemmas.List.{length-append, append-nil}
 use Rattle.std.proofs.lemmas.Option.{get_or_from_slice_get, slice_get-get_or}
 use Rattle.b1_model.specs.declared.naming.Key.{Key}
@@ -24,12 +24,11 @@ use Rattle.b1_model.specs.MachineDriver.{Turn, Goes, no_ref, node_of_place, acce
 use Rattle.b1_model.specs.MachineDriver as driver
 use Rattle.b1_model.specs.MachineTook.{ended}
 use Rattle.b1_schedule.specs.Shortage.{Shortage}
-use Rattle.b1_step.specs.Rights.{Has}
 use Rattle.b1_inv_refs.proofs.Numbered.{EachRecord, each_changed, each_made}
-use Rattle.b1_serial_bus.specs.Parts.{Part, Bus}
+use Rattle.b1_serial_bus.specs.Parts.{Bus}
 use Rattle.b1_serial_bus.specs.Letters.{Letter, Places, letter_len}
-use Rattle.b1_serial_rest.specs.Standing.{with_line, lines_of, part_of}
-use Rattle.b1_serial_send.proofs.Midway.{Answered, over, at_part, stage_at, unstage_at, sending_driver, midway}
+use Rattle.b1_serial_rest.specs.Standing.{with_line, lines_of}
+use Rattle.b1_serial_send.proofs.Midway.{Answered, over, stage_at, unstage_at, sending_driver, midway}
 use Rattle.b1_serial_send.proofs.Lists.{over_keeps, over_one, over_none}
 use Rattle.b1_serial_send.proofs.Parts.{Placed, at_keeps, map_same}
 use Rattle.b1_serial_send.proofs.Goes.{WillEnd, goes}
@@ -37,8 +36,8 @@ use Rattle.b1_serial_send.proofs.Accepted.{accepted_here, refused_here, none_lef
 use Rattle.b1_serial_send.proofs.Staging.{turned_to, turned_so}
 use Rattle.b1_serial_send.proofs.Committing.{places_back}
 use Rattle.b1_serial_send.proofs.Keys.{NonePass, find_past, without_one}
-use Rattle.b1_serial_send.proofs.Copies.{place_key, copy, copies, copies_all}
-use Rattle.b1_serial_send.proofs.Finals.{bare, lines_expected}
+use Rattle.b1_serial_send.proofs.Copies.{copy, copies, copies_all}
+use Rattle.b1_serial_send.proofs.Finals.{bare}
 
 -- ---- one part
 
@@ -181,8 +180,8 @@ module _ (o : Opening) (m : Shortage) (target : Bus) (s : State) (d : DriverPart
   back_refused before rest r all next =
       let to = read_to before rest (Some r) all in
       let same_from : accepted_from (length (before ++ Some r ∷ [])) answers ≡ accepted_from (length before) answers =
-          ap (λ k. accepted_from k answers) (length-append before (Some r ∷ []))
-          ∙ ap (accepted_from (length before + 1)) all ∙ sym (refused_here before rest r) ∙ ap (accepted_from (length before)) (sym all) in
+      ap (λ k. accepted_from k answers) (length-append before (Some r ∷ []))
+      ∙ ap (accepted_from (length before + 1)) all ∙ sym (refused_here before rest r) ∙ ap (accepted_from (length before)) (sym all) in
       same_parts (after_unstages (before ++ Some r ∷ [])) (after_unstages before) (unstaging begun answers refused (accepted_from (length before) answers)) (λ y. over_none letter before to.0 to.1 (unstage_at d.me) r (g y))
       (subst (λ k. At (after_unstages (before ++ Some r ∷ [])) (unstaging begun answers refused k)) same_from next)
 
