@@ -1,9 +1,12 @@
 -- The accepted places of a SEND, from one on.
-use Rattle.std.proofs.Common.{◌≡◌, refl, sym, ap, ◌∙◌, ℕ, zero, suc, ◌+◌, ◌<◌, ◌≤◌, true, false, cond, nat_lt, nat_le, List, [], ◌∷◌, ◌++◌, length, set, get_or, Option, Some, None, arith}
+use Rattle.std.proofs.Common.{◌≡◌, refl, sym, ap, ◌∙◌, ℕ, zero, suc, ◌+◌, ◌<◌, ◌≤◌, true, false, cond, nat_lt, nat_le, List, [], ◌∷◌, ◌++◌, length, set, get_or, Option, Some, None, arith, subst}
+use Rattle.std.specs.Prelude.{slice_get}
 use Rattle.std.proofs.lemmas.Bool.{ltb-true, lt-ltb, le-leb, leb-true, false_from_ne_true}
-use Rattle.std.proofs.lemmas.List.{length-append}
+use Rattle.std.proofs.lemmas.List.{append_assoc, append-nil, length-append}
+use Rattle.std.proofs.lemmas.Option.{slice_get-get_or}
+use Rattle.b1_model.specs.declared.naming.NodeRef.{NodeRef}
 use Rattle.b1_model.specs.declared.answers.Reason.{Reason}
-use Rattle.b1_model.specs.MachineDriver.{next_accepted, accepted_from, is_place}
+use Rattle.b1_model.specs.MachineDriver.{no_ref, next_accepted, accepted_from, is_place}
 use Rattle.b1_serial_bus.specs.Letters.{Places}
 
 pub not_below : (a b : ℕ) → b ≤ a → nat_lt a b ≡ false
@@ -39,38 +42,58 @@ low (None ∷ rest) here from other one two =
 low (Some r ∷ rest) here from other one two = low rest (here + 1) from other (omega (arith, one)) (omega (arith, two))
 
 -- the next place accepted
-pub accepted_here : (before rest : Places) → accepted_from (length before) (before ++ None ∷ rest) ≡ length before
+accepted_here : (before rest : Places) → accepted_from (length before) (before ++ None ∷ rest) ≡ length before
 accepted_here before rest = past_all before (None ∷ rest) ∙ ap (λ b. cond b (length before) (next_accepted (length before + 1) (length before) rest)) (le-leb (length before) (length before) (omega arith))
 
 -- the next place refused
-pub refused_here : (before rest : Places) (r : Reason) → accepted_from (length before) (before ++ Some r ∷ rest) ≡ accepted_from (length before + 1) (before ++ Some r ∷ rest)
+refused_here : (before rest : Places) (r : Reason) → accepted_from (length before) (before ++ Some r ∷ rest) ≡ accepted_from (length before + 1) (before ++ Some r ∷ rest)
 refused_here before rest r =
     past_all before (Some r ∷ rest)
     ∙ low rest (length before + 1) (length before) (length before + 1) (omega arith) (omega arith)
     ∙ sym (next (Some r) before rest)
   where
-    append_one : (before : Places) (a : Option Reason) (rest : Places) → (before ++ a ∷ []) ++ rest ≡ before ++ a ∷ rest
-    append_one [] a rest = refl
-    append_one (b ∷ bs) a rest = ap (λ zs. b ∷ zs) (append_one bs a rest)
-
     next : (a : Option Reason) (before rest : Places) → accepted_from (length before + 1) (before ++ a ∷ rest) ≡ next_accepted (length before + 1) (length before + 1) rest
     next a before rest =
         let len : length (before ++ a ∷ []) ≡ length before + 1 = length-append before (a ∷ []) in
-        ap (λ zs. accepted_from (length before + 1) zs) (sym (append_one before a rest))
+        ap (λ zs. accepted_from (length before + 1) zs) (sym (append_assoc before (a ∷ []) rest))
         ∙ ap (λ k. accepted_from k ((before ++ a ∷ []) ++ rest)) (sym len)
         ∙ past_all (before ++ a ∷ []) rest
         ∙ ap (λ k. next_accepted k k rest) len
 
 -- no place is left
 pub none_left : (places : Places) → is_place (accepted_from (length places) places) places ≡ false
-none_left places = not_below (accepted_from (length places) places) (length places) (let e = ap (accepted_from (length places)) (sym (append_nil places)) ∙ past_all places [] in omega (arith, e))
-  where
-    append_nil : (zs : Places) → zs ++ [] ≡ zs
-    append_nil [] = refl
-    append_nil (z ∷ zs) = ap (λ ys. z ∷ ys) (append_nil zs)
+none_left places = not_below (accepted_from (length places) places) (length places) (let e = ap (accepted_from (length places)) (sym (append-nil places)) ∙ past_all places [] in omega (arith, e))
 
-pub place_here : (before rest : Places) (a : Option Reason) → is_place (length before) (before ++ a ∷ rest) ≡ true
+place_here : (before rest : Places) (a : Option Reason) → is_place (length before) (before ++ a ∷ rest) ≡ true
 place_here before rest a = lt-ltb (length before) (length (before ++ a ∷ rest)) (let e = length-append before (a ∷ rest) in omega (arith, e))
+
+-- ---- places of a list of answers
+
+module _ (answers before rest : Places) where
+  -- a place has its destination
+  pub place_to : (tos : List NodeRef) (a : Option Reason) → length answers ≤ length tos → answers ≡ before ++ a ∷ rest → (to : NodeRef) × (slice_get tos (length before) ≡ Some to)
+  place_to tos a fits all = (get_or tos (length before) no_ref, slice_get-get_or tos (length before) no_ref (let one = ap length all in let two = length-append before (a ∷ rest) in omega (arith, one, two, fits)))
+
+  -- behind a refused place, and at an accepted one
+  pub refused_from : (r : Reason) → answers ≡ before ++ Some r ∷ rest → accepted_from (length (before ++ Some r ∷ [])) answers ≡ accepted_from (length before) answers
+  refused_from r all =
+      ap (λ k. accepted_from k answers) (length-append before (Some r ∷ []))
+      ∙ ap (accepted_from (length before + 1)) all ∙ sym (refused_here before rest r) ∙ ap (accepted_from (length before)) (sym all)
+
+  pub accepted_at : answers ≡ before ++ None ∷ rest → accepted_from (length before) answers ≡ length before
+  accepted_at all = ap (accepted_from (length before)) all ∙ accepted_here before rest
+
+  pub is_place_at : answers ≡ before ++ None ∷ rest → is_place (length before) answers ≡ true
+  is_place_at all = ap (is_place (length before)) all ∙ place_here before rest None
+
+-- from the last place back to the first one
+pub places_back : (answers : Places) (At : Places → Type 0)
+    → ((before rest : Places) (r : Reason) → answers ≡ before ++ Some r ∷ rest → At (before ++ Some r ∷ []) → At before)
+    → ((before rest : Places) → answers ≡ before ++ None ∷ rest → At (before ++ None ∷ []) → At before)
+    → At answers → (rest before : Places) → answers ≡ before ++ rest → At before
+places_back answers At refused accepted last [] before all = subst At (all ∙ append-nil before) last
+places_back answers At refused accepted last (Some r ∷ rest) before all = refused before rest r all (places_back answers At refused accepted last rest (before ++ Some r ∷ []) (all ∙ sym (append_assoc before (Some r ∷ []) rest)))
+places_back answers At refused accepted last (None ∷ rest) before all = accepted before rest all (places_back answers At refused accepted last rest (before ++ None ∷ []) (all ∙ sym (append_assoc before (None ∷ []) rest)))
 
 -- ---- lists changed at a place
 

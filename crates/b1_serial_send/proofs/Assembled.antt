@@ -37,6 +37,7 @@ use Rattle.b1_serial_rest.specs.Standing.{part_of, bus_of}
 use Rattle.b1_serial_rest.specs.Rest.{AtRest}
 use Rattle.b1_serial_rest.specs.Whole.{RunsWhole}
 use Rattle.b1_serial_send.proofs.Midway.{with_begin, over, stage_at, sending_driver, midway}
+use Rattle.b1_serial_send.proofs.Lists.{over_nothing}
 use Rattle.b1_serial_send.proofs.Parts.{map_same}
 use Rattle.b1_serial_send.proofs.Goes.{WillEnd}
 use Rattle.b1_serial_send.proofs.Staging.{turned_to, AreAccepted, staged_all}
@@ -71,10 +72,6 @@ refusal_behind here (Some r ∷ rest) a more all = absurd all
 zip_nothing : (tos : List NodeRef) (to : NodeRef) → Has {X = NodeRef × Option Reason} (zip tos []) (to, None) → ⊥
 zip_nothing [] to there = there
 zip_nothing (t ∷ ts) to there = there
-
-nothing_over : (f : ℕ → NodeRef → PeerPart → PeerPart) (tos : List NodeRef) (x : PeerPart) → over f 0 (zip tos []) x ≡ x
-nothing_over f [] x = refl
-nothing_over f (t ∷ ts) x = refl
 
 nothing_accepted : (tos : List NodeRef) (s : Letter) → s.to ≡ tos → accepted s [] ≡ []
 nothing_accepted [] s same = ap (λ ts. accepted (record s { to = ts }) []) same
@@ -188,7 +185,7 @@ module _ {o : Opening} {s : State} {bus : Bus} (opens : IsOpening o) (reached : 
     from_stages : ((to : NodeRef) → Has begun.to to → There to) → ((node : NodeRef) → Has begun.with node → There node) → TakesBack
         → WillEnd o m d.me wanted (midway s d.me (sending_driver d c (Staging begun [] 0)) f)
     from_stages destinations carried takes_back =
-        subst (λ xs. WillEnd o m d.me wanted (record { peers = xs; drivers = set s.drivers d.me (sending_driver d c (Staging begun [] 0)) })) (map_same (staged_parts []) f s.peers (λ y. nothing_over (stage_at letter) begun.to (f y)))
+        subst (λ xs. WillEnd o m d.me wanted (record { peers = xs; drivers = set s.drivers d.me (sending_driver d c (Staging begun [] 0)) })) (map_same (staged_parts []) f s.peers (λ y. over_nothing (stage_at letter) begun.to (f y)))
         (subst (At (staged_parts [])) first_turn
         (staged_all o m d.me wanted s d c begun (placed opens reached rest) is_driver f (begun_me opens reached rest d.me c) with_nodes final at_end takes_back begun.to []
         (record { done = []; all = refl; count = refl; there = destinations; comes = refl; accepted_all = λ stops. tt })))

@@ -1,10 +1,11 @@
 -- The attaches of a SEND: each carried handle at each accepted place, by its owner's answer.
-use Rattle.std.proofs.Common.{◌≡◌, refl, sym, ap, ap₂, ◌∙◌, subst, inl, inr, ℕ, zero, suc, ◌+◌, ◌<◌, ◌==◌, ◌&&◌, ◌⊎◌, max, Bool, true, false, cond, nat_lt, List, [], ◌∷◌, ◌++◌, map, fold, filter_map, length, set, zip, get_or, Option, Some, None, is_some, arith}
+use Rattle.std.proofs.Common.{◌≡◌, refl, sym, ap, ap₂, ◌∙◌, subst, inl, inr, ℕ, zero, suc, ◌+◌, ◌<◌, ◌==◌, ◌&&◌, ◌⊎◌, max, Bool, true, false, cond, nat_lt, List, [], ◌∷◌, ◌++◌, map, le_of_eq, fold, filter_map, length, set, zip, get_or, Option, Some, None, is_some, arith}
 use Rattle.std.specs.Prelude.{slice_get}
 use Rattle.std.specs.List.{cons_option}
 use Rattle.std.proofs.lemmas.Bool.{lt-ltb, eq-eqb, ne_eqb, cases_eq}
 use Rattle.std.proofs.lemmas.List.{append_assoc, append-nil, length-append, set-set, get_or-set_same, map-append}
 use Rattle.std.proofs.lemmas.Option.{get_or_from_slice_get, slice_get_within, slice_get-get_or}
+use Rattle.std.proofs.lemmas.List.Sums.{fold-append}
 use Rattle.b1_model.specs.declared.naming.NodeRef.{NodeRef}
 use Rattle.b1_model.specs.declared.naming.Opening.{Opening}
 use Rattle.b1_model.specs.declared.commands.Command.TheVariants as cmd
@@ -35,11 +36,11 @@ use Rattle.b1_serial_bus.specs.Letters.{Letter, Places}
 use Rattle.b1_serial_bus.specs.Delivery.{slot_for}
 use Rattle.b1_serial_rest.specs.Standing.{stamp_of, part_of}
 use Rattle.b1_serial_send.proofs.Midway.{over, attach_at, attach_all, sending_driver, midway}
-use Rattle.b1_serial_send.proofs.Lists.{over_keeps, over_one, over_none, fold_append}
+use Rattle.b1_serial_send.proofs.Lists.{over_keeps, over_one, over_none}
 use Rattle.b1_serial_send.proofs.Parts.{Placed, at_keeps, map_same}
-use Rattle.b1_serial_send.proofs.Goes.{WillEnd, goes}
+use Rattle.b1_serial_send.proofs.Goes.{WillEnd, goes, same_parts}
 use Rattle.b1_serial_send.proofs.Answers.{destroyed_so}
-use Rattle.b1_serial_send.proofs.Accepted.{not_below, accepted_here, refused_here, none_left, place_here, set_middle, set_itself}
+use Rattle.b1_serial_send.proofs.Accepted.{not_below, none_left, set_middle, set_itself, place_to, refused_from, accepted_at, is_place_at, places_back}
 use Rattle.b1_serial_send.proofs.Staging.{turned_to, turned_so}
 
 -- ---- slots
@@ -286,13 +287,12 @@ module _ (o : Opening) (m : Shortage) (p : ℕ) (target : Bus) (s : State) (d : 
     one_attach =
         goes o m p target s d c placed is_driver (Attaching now (length before) (length nodes)) (within_place before to nodes) (λ y. attached y node.serial to.owner) (within_place before to (nodes ++ node ∷ []))
         node.owner there.0 _ (within_me before to nodes) there.2 (ap (λ n. n.owner) node_is) effect_is
-        (λ y. sym (fold_append (λ z n. attach_at to.owner n z) (after_attaches before y) nodes (node ∷ [])))
+        (λ y. sym (fold-append (λ z n. attach_at to.owner n z) (after_attaches before y) nodes (node ∷ [])))
 
   -- ---- the handles of one place
 
-  -- the same with other words for the parts
-  same_parts : (h j : PeerPart → PeerPart) (turn : Turn) → ((y : PeerPart) → h y ≡ j y) → At h turn → At j turn
-  same_parts h j turn same = subst (λ xs. WillEnd o m p target (record { peers = xs; drivers = set s.drivers p (turned_to d c turn) })) (map_same h j s.peers same)
+  same_at : (h j : PeerPart → PeerPart) (turn : Turn) → ((y : PeerPart) → h y ≡ j y) → At h turn → At j turn
+  same_at h j turn same = same_parts o m p target s (turned_to d c turn) h j same
 
   collected_more : (k : ℕ) (node : NodeRef) (rest : List NodeRef) → collected_of (collected_of k (node ∷ [])) rest ≡ collected_of k (node ∷ rest)
   collected_more k node rest = by (destroyed_in bus node)
@@ -335,19 +335,13 @@ module _ (o : Opening) (m : Shortage) (p : ℕ) (target : Bus) (s : State) (d : 
   behind before = cond (is_place (accepted_from (length before) final) final) (Attaching (attached_so_far before) (accepted_from (length before) final) 0) (Stamping (attached_so_far before))
 
   module _ (some : 0 < length begun.with) (carried : (node : NodeRef) → Has begun.with node → Carried node) (at_stamp : At (after_attaches final) (Goes (Stamping (attached_so_far final)))) where
-    read_to : (before rest : Places) (a : Option Reason) → final ≡ before ++ a ∷ rest → (to : NodeRef) × (slice_get begun.to (length before) ≡ Some to)
-    read_to before rest a all = (get_or begun.to (length before) no_ref, slice_get-get_or begun.to (length before) no_ref (let one = ap length all in let two = length-append before (a ∷ rest) in omega (arith, one, two, len)))
-
     refused_place : (before rest : Places) (r : Reason) → final ≡ before ++ Some r ∷ rest → At (after_attaches (before ++ Some r ∷ [])) (Goes (behind (before ++ Some r ∷ []))) → At (after_attaches before) (Goes (behind before))
     refused_place before rest r all next =
-        let to = read_to before rest (Some r) all in
-        let same_from : accepted_from (length (before ++ Some r ∷ [])) final ≡ accepted_from (length before) final =
-        ap (λ k. accepted_from k final) (length-append before (Some r ∷ []))
-        ∙ ap (accepted_from (length before + 1)) all ∙ sym (refused_here before rest r) ∙ ap (accepted_from (length before)) (sym all) in
+        let to = place_to final before rest begun.to (Some r) (le_of_eq len) all in
         let same_sending : attached_so_far (before ++ Some r ∷ []) ≡ attached_so_far before =
-        ap₂ (λ slots k. sending slots k) (sym (rows_refused bus begun.with begun.to before r)) (fold_append (λ k a. elim a [ None ↦ collected_of k begun.with | Some e ↦ k ]) first before (Some r ∷ [])) in
-        same_parts (after_attaches (before ++ Some r ∷ [])) (after_attaches before) (Goes (behind before)) (λ y. over_none letter before to.0 to.1 (attach_all begun.with) r (g y))
-        (subst (λ ph. At (after_attaches (before ++ Some r ∷ [])) (Goes ph)) (ap₂ (λ k z. cond (is_place k final) (Attaching z k 0) (Stamping z)) same_from same_sending) next)
+        ap₂ (λ slots k. sending slots k) (sym (rows_refused bus begun.with begun.to before r)) (fold-append (λ k a. elim a [ None ↦ collected_of k begun.with | Some e ↦ k ]) first before (Some r ∷ [])) in
+        same_at (after_attaches (before ++ Some r ∷ [])) (after_attaches before) (Goes (behind before)) (λ y. over_none letter before to.0 to.1 (attach_all begun.with) r (g y))
+        (subst (λ ph. At (after_attaches (before ++ Some r ∷ [])) (Goes ph)) (ap₂ (λ k z. cond (is_place k final) (Attaching z k 0) (Stamping z)) (refused_from final before rest r all) same_sending) next)
       where
         letter : Letter
         letter = record { origin = d.me; user = 0; to = begun.to; with = begun.with; payload = c.payload }
@@ -359,13 +353,13 @@ module _ (o : Opening) (m : Shortage) (p : ℕ) (target : Bus) (s : State) (d : 
         (subst (λ b. At (after_attaches before) (Goes (cond b (Attaching start (length before) 0) (cond (b && is_place (accepted_from (length before + 1) final) final) (Attaching start (accepted_from (length before + 1) final) 0) (Stamping start))))) some_is
         (handles_attach before to.0 to.1 begun.with [] (collected_at before) refl carried
         (subst (λ ph. At (within_place before to.0 begun.with) (Goes ph)) (sym there)
-        (same_parts (after_attaches (before ++ None ∷ [])) (within_place before to.0 begun.with) (Goes (behind (before ++ None ∷ []))) (λ y. over_one letter before to.0 to.1 (attach_all begun.with) (g y)) next)))))
+        (same_at (after_attaches (before ++ None ∷ [])) (within_place before to.0 begun.with) (Goes (behind (before ++ None ∷ []))) (λ y. over_one letter before to.0 to.1 (attach_all begun.with) (g y)) next)))))
       where
         letter : Letter
         letter = record { origin = d.me; user = 0; to = begun.to; with = begun.with; payload = c.payload }
 
         to : (to : NodeRef) × (slice_get begun.to (length before) ≡ Some to)
-        to = read_to before rest None all
+        to = place_to final before rest begun.to None (le_of_eq len) all
 
         start : Sending
         start = sending (set (rows bus begun.with begun.to before) (length before) (no_slots begun.with)) (collected_at before)
@@ -376,22 +370,16 @@ module _ (o : Opening) (m : Shortage) (p : ℕ) (target : Bus) (s : State) (d : 
         unchanged : start ≡ attached_so_far before
         unchanged = ap (λ slots. sending slots (collected_at before)) (ap (set (rows bus begun.with begun.to before) (length before)) (sym (rows_next bus begun.with begun.to before to.0 to.1)) ∙ set_itself (rows bus begun.with begun.to before) (length before) [])
 
-        from_here : accepted_from (length before) final ≡ length before
-        from_here = ap (accepted_from (length before)) all ∙ accepted_here before rest
-
-        is_here : is_place (length before) final ≡ true
-        is_here = ap (is_place (length before)) all ∙ place_here before rest None
-
         here : behind before ≡ Attaching (attached_so_far before) (length before) 0
         here =
-            ap (λ k. cond (is_place k final) (Attaching (attached_so_far before) k 0) (Stamping (attached_so_far before))) from_here
-            ∙ ap (λ b. cond b (Attaching (attached_so_far before) (length before) 0) (Stamping (attached_so_far before))) is_here
+            ap (λ k. cond (is_place k final) (Attaching (attached_so_far before) k 0) (Stamping (attached_so_far before))) (accepted_at final before rest all)
+            ∙ ap (λ b. cond b (Attaching (attached_so_far before) (length before) 0) (Stamping (attached_so_far before))) (is_place_at final before rest all)
 
         done : Sending
         done = sending (set (rows bus begun.with begun.to before) (length before) (map (slot_for bus to.0.owner) begun.with)) (collected_of (collected_at before) begun.with)
 
         done_is : done ≡ attached_so_far (before ++ None ∷ [])
-        done_is = ap₂ (λ slots k. sending slots k) (rows_one bus begun.with begun.to before to.0 to.1) (sym (fold_append (λ k a. elim a [ None ↦ collected_of k begun.with | Some e ↦ k ]) first before (None ∷ [])))
+        done_is = ap₂ (λ slots k. sending slots k) (rows_one bus begun.with begun.to before to.0 to.1) (sym (fold-append (λ k a. elim a [ None ↦ collected_of k begun.with | Some e ↦ k ]) first before (None ∷ [])))
 
         there : attaching done (length before) (length begun.with) ≡ behind (before ++ None ∷ [])
         there =
@@ -399,9 +387,8 @@ module _ (o : Opening) (m : Shortage) (p : ℕ) (target : Bus) (s : State) (d : 
             ∙ ap (λ b. cond (b && is_place (accepted_from (length before + 1) final) final) (Attaching done (accepted_from (length before + 1) final) 0) (Stamping done)) some_is
             ∙ ap₂ (λ k z. cond (is_place (accepted_from k final) final) (Attaching z (accepted_from k final) 0) (Stamping z)) (sym (length-append before (None ∷ []))) done_is
 
-    pub places_attach : (rest before : Places) → final ≡ before ++ rest → At (after_attaches before) (Goes (behind before))
-    places_attach [] before all =
-        subst (λ zs. At (after_attaches zs) (Goes (behind zs))) (all ∙ append-nil before)
+    pub places_attach : At (after_attaches []) (Goes (behind []))
+    places_attach =
+        places_back final (λ before. At (after_attaches before) (Goes (behind before))) refused_place accepted_place
         (subst (λ b. At (after_attaches final) (Goes (cond b (Attaching (attached_so_far final) (accepted_from (length final) final) 0) (Stamping (attached_so_far final))))) (sym (none_left final)) at_stamp)
-    places_attach (Some r ∷ rest) before all = refused_place before rest r all (places_attach rest (before ++ Some r ∷ []) (all ∙ sym (append_assoc before (Some r ∷ []) rest)))
-    places_attach (None ∷ rest) before all = accepted_place before rest all (places_attach rest (before ++ None ∷ []) (all ∙ sym (append_assoc before (None ∷ []) rest)))
+        final [] refl

@@ -29,7 +29,7 @@ use Rattle.b1_serial_bus.specs.Places.{place_reasons, answer_of, answered}
 use Rattle.b1_serial_bus.specs.Delivery.{slot_for, delivered_from}
 use Rattle.b1_serial_rest.specs.Rest.{sent_to, is_notice_of, is_noticed_behind, BoxesRight}
 use Rattle.b1_serial_send.proofs.Midway.{Answered}
-use Rattle.b1_serial_send.proofs.Lists.{zip_more}
+use Rattle.b1_serial_send.proofs.Lists.{zip_more, read_middle}
 use Rattle.b1_serial_send.proofs.Charges.{count_at}
 use Rattle.b1_serial_send.proofs.Keys.{IsLast}
 use Rattle.b1_serial_send.proofs.Copies.{place_key, copy, copies}
@@ -210,10 +210,6 @@ alive_by bus s places to short none = by (slice_get bus to.owner) refl
     by (Some y) there =
         ap (λ r. is_some (elim r [ None ↦ None | Some z ↦ destroyed_at z to.serial ])) there
         ∙ alive y (is_some (destroyed_at y to.serial)) refl (sym (ap (λ r. elim r [ None ↦ None | Some z ↦ first_reason (place_reasons s (accepted_by to.owner s places) z to.serial short) ]) there) ∙ none)
-
-read_middle : {X : Type 0} (done : List X) (x : X) (rest : List X) → slice_get (done ++ x ∷ rest) (length done) ≡ Some x
-read_middle [] x rest = refl
-read_middle (y ∷ ys) x rest = read_middle ys x rest
 
 pub answered_alive : (bus : Bus) (s : Letter) (short : Option ℕ → Bool) (rest done : List NodeRef) (places : Places) → s.to ≡ done ++ rest → length done ≡ length places → AreAlive bus (zip s.to places) → AreAlive bus (zip s.to (answered bus s short rest places))
 answered_alive bus s short [] done places all count alive = alive

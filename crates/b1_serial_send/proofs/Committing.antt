@@ -1,5 +1,5 @@
 -- The stamp of a SEND, its syncs and its commits.
-use Rattle.std.proofs.Common.{◌≡◌, refl, sym, ap, ◌∙◌, subst, ℕ, ◌+◌, true, cond, not, List, [], ◌∷◌, ◌++◌, length, set, zip, get_or, Option, Some, None, arith}
+use Rattle.std.proofs.Common.{◌≡◌, refl, sym, ap, ◌∙◌, subst, ℕ, ◌+◌, true, cond, not, List, [], ◌∷◌, ◌++◌, length, set, zip, get_or, Option, Some, None, arith, le_of_eq}
 use Rattle.std.specs.Prelude.{slice_get}
 use Rattle.std.proofs.lemmas.List.{append_assoc, append-nil, length-append}
 use Rattle.std.proofs.lemmas.Option.{get_or_from_slice_get, slice_get-get_or}
@@ -22,20 +22,11 @@ use Rattle.b1_schedule.specs.Shortage.{Shortage}
 use Rattle.b1_serial_bus.specs.Parts.{Bus}
 use Rattle.b1_serial_bus.specs.Letters.{Letter, Places}
 use Rattle.b1_serial_send.proofs.Midway.{over, stamp_at, sync_at, commit_at, sending_driver, midway}
-use Rattle.b1_serial_send.proofs.Lists.{over_keeps, over_one, over_none}
+use Rattle.b1_serial_send.proofs.Lists.{over_keeps, over_one, over_none, over_nothing}
 use Rattle.b1_serial_send.proofs.Parts.{Placed, at_keeps, map_same}
-use Rattle.b1_serial_send.proofs.Goes.{WillEnd, goes}
-use Rattle.b1_serial_send.proofs.Accepted.{accepted_here, refused_here, none_left, place_here}
+use Rattle.b1_serial_send.proofs.Goes.{WillEnd, goes, same_parts}
+use Rattle.b1_serial_send.proofs.Accepted.{none_left, place_to, refused_from, accepted_at, is_place_at, places_back}
 use Rattle.b1_serial_send.proofs.Staging.{turned_to, turned_so}
-
--- from the last place back to the first one
-pub places_back : (final : Places) (At : Places → Type 0)
-    → ((before rest : Places) (r : Reason) → final ≡ before ++ Some r ∷ rest → At (before ++ Some r ∷ []) → At before)
-    → ((before rest : Places) → final ≡ before ++ None ∷ rest → At (before ++ None ∷ []) → At before)
-    → At final → (rest before : Places) → final ≡ before ++ rest → At before
-places_back final At refused accepted last [] before all = subst At (all ∙ append-nil before) last
-places_back final At refused accepted last (Some r ∷ rest) before all = refused before rest r all (places_back final At refused accepted last rest (before ++ Some r ∷ []) (all ∙ sym (append_assoc before (Some r ∷ []) rest)))
-places_back final At refused accepted last (None ∷ rest) before all = accepted before rest all (places_back final At refused accepted last rest (before ++ None ∷ []) (all ∙ sym (append_assoc before (None ∷ []) rest)))
 
 -- a commit leaves the part's number
 found_me : (found : Option (Key × Entry)) (x : PeerPart) (origin index stamp : ℕ) (slots : List Slot) → (committed_by found x origin index stamp slots).me ≡ x.me
@@ -59,22 +50,8 @@ module _ (o : Opening) (m : Shortage) (p : ℕ) (target : Bus) (s : State) (d : 
   abbrev At : (PeerPart → PeerPart) → Turn → Type 0
   At h turn = WillEnd o m p target (midway s p (turned_to d c turn) h)
 
-  same_parts : (h j : PeerPart → PeerPart) (turn : Turn) → ((y : PeerPart) → h y ≡ j y) → At h turn → At j turn
-  same_parts h j turn same = subst (λ xs. WillEnd o m p target (record { peers = xs; drivers = set s.drivers p (turned_to d c turn) })) (map_same h j s.peers same)
-
-  read_to : (before rest : Places) (a : Option Reason) → final ≡ before ++ a ∷ rest → (to : NodeRef) × (slice_get tos (length before) ≡ Some to)
-  read_to before rest a all = (get_or tos (length before) no_ref, slice_get-get_or tos (length before) no_ref (let one = ap length all in let two = length-append before (a ∷ rest) in omega (arith, one, two, len)))
-
-  same_from : (before rest : Places) (r : Reason) → final ≡ before ++ Some r ∷ rest → accepted_from (length (before ++ Some r ∷ [])) final ≡ accepted_from (length before) final
-  same_from before rest r all =
-      ap (λ k. accepted_from k final) (length-append before (Some r ∷ []))
-      ∙ ap (accepted_from (length before + 1)) all ∙ sym (refused_here before rest r) ∙ ap (accepted_from (length before)) (sym all)
-
-  from_here : (before rest : Places) → final ≡ before ++ None ∷ rest → accepted_from (length before) final ≡ length before
-  from_here before rest all = ap (accepted_from (length before)) all ∙ accepted_here before rest
-
-  is_here : (before rest : Places) → final ≡ before ++ None ∷ rest → is_place (length before) final ≡ true
-  is_here before rest all = ap (is_place (length before)) all ∙ place_here before rest None
+  same_at : (h j : PeerPart → PeerPart) (turn : Turn) → ((y : PeerPart) → h y ≡ j y) → At h turn → At j turn
+  same_at h j turn same = same_parts o m p target s (turned_to d c turn) h j same
 
   -- ---- the stamp
 
@@ -102,17 +79,17 @@ module _ (o : Opening) (m : Shortage) (p : ℕ) (target : Bus) (s : State) (d : 
 
     sync_refused : (before rest : Places) (r : Reason) → final ≡ before ++ Some r ∷ rest → Synced (before ++ Some r ∷ []) → Synced before
     sync_refused before rest r all next =
-        let to = read_to before rest (Some r) all in
-        same_parts (after_syncs (before ++ Some r ∷ [])) (after_syncs before) (Goes (syncing sending stamp (accepted_from (length before) final))) (λ y. over_none letter before to.0 to.1 (sync_at stamp) r (h y))
-        (subst (λ k. At (after_syncs (before ++ Some r ∷ [])) (Goes (syncing sending stamp k))) (same_from before rest r all) next)
+        let to = place_to final before rest tos (Some r) (le_of_eq len) all in
+        same_at (after_syncs (before ++ Some r ∷ [])) (after_syncs before) (Goes (syncing sending stamp (accepted_from (length before) final))) (λ y. over_none letter before to.0 to.1 (sync_at stamp) r (h y))
+        (subst (λ k. At (after_syncs (before ++ Some r ∷ [])) (Goes (syncing sending stamp k))) (refused_from final before rest r all) next)
 
     sync_accepted : (before rest : Places) → final ≡ before ++ None ∷ rest → Synced (before ++ None ∷ []) → Synced before
     sync_accepted before rest all next =
-        let to = read_to before rest None all in
+        let to = place_to final before rest tos None (le_of_eq len) all in
         let x = owner before rest to.0 all to.1 in
         let owner_is : (node_of_place tos (length before)).owner ≡ to.0.owner = ap (λ n. n.owner) (get_or_from_slice_get tos (length before) to.0 no_ref to.1) in
-        subst (λ k. At (after_syncs before) (Goes (syncing sending stamp k))) (sym (from_here before rest all))
-        (subst (λ b. At (after_syncs before) (Goes (cond b (Syncing sending stamp (length before)) (Committing sending stamp (accepted_from 0 final))))) (sym (is_here before rest all))
+        subst (λ k. At (after_syncs before) (Goes (syncing sending stamp k))) (sym (accepted_at final before rest all))
+        (subst (λ b. At (after_syncs before) (Goes (cond b (Syncing sending stamp (length before)) (Committing sending stamp (accepted_from 0 final))))) (sym (is_place_at final before rest all))
         (goes o m p target s d c placed is_driver (Syncing sending stamp (length before)) (after_syncs before) (λ y. synced y stamp) (after_syncs (before ++ None ∷ []))
         to.0.owner x.0 _ (syncs_keep before) x.1 owner_is
         (ap (λ e. (e, synced (after_syncs before x.0) stamp)) (turned_so d c (Syncing sending stamp (length before)) (Goes (syncing sending stamp (accepted_from (length before + 1) final)))))
@@ -121,14 +98,10 @@ module _ (o : Opening) (m : Shortage) (p : ℕ) (target : Bus) (s : State) (d : 
 
     pub syncs_go : At (after_syncs final) (Goes (Committing sending stamp (accepted_from 0 final))) → At h (Goes (syncing sending stamp (accepted_from 0 final)))
     syncs_go commits =
-        same_parts (after_syncs []) h (Goes (syncing sending stamp (accepted_from 0 final))) (λ y. none tos (h y))
+        same_at (after_syncs []) h (Goes (syncing sending stamp (accepted_from 0 final))) (λ y. over_nothing (sync_at stamp) tos (h y))
         (places_back final Synced sync_refused sync_accepted
         (subst (λ b. At (after_syncs final) (Goes (cond b (Syncing sending stamp (accepted_from (length final) final)) (Committing sending stamp (accepted_from 0 final))))) (sym (none_left final)) commits)
         final [] refl)
-      where
-        none : (ts : List NodeRef) (y : PeerPart) → over (sync_at stamp) 0 (zip ts []) y ≡ y
-        none [] y = refl
-        none (t ∷ ts) y = refl
 
   -- ---- the commits
 
@@ -150,17 +123,17 @@ module _ (o : Opening) (m : Shortage) (p : ℕ) (target : Bus) (s : State) (d : 
 
     commit_refused : (before rest : Places) (r : Reason) → final ≡ before ++ Some r ∷ rest → Committed (before ++ Some r ∷ []) → Committed before
     commit_refused before rest r all next =
-        let to = read_to before rest (Some r) all in
-        same_parts (after_commits (before ++ Some r ∷ [])) (after_commits before) (Goes (Committing sending stamp (accepted_from (length before) final))) (λ y. over_none letter before to.0 to.1 (commit_at d.me stamp slots) r (h y))
-        (subst (λ k. At (after_commits (before ++ Some r ∷ [])) (Goes (Committing sending stamp k))) (same_from before rest r all) next)
+        let to = place_to final before rest tos (Some r) (le_of_eq len) all in
+        same_at (after_commits (before ++ Some r ∷ [])) (after_commits before) (Goes (Committing sending stamp (accepted_from (length before) final))) (λ y. over_none letter before to.0 to.1 (commit_at d.me stamp slots) r (h y))
+        (subst (λ k. At (after_commits (before ++ Some r ∷ [])) (Goes (Committing sending stamp k))) (refused_from final before rest r all) next)
 
     commit_accepted : (before rest : Places) → final ≡ before ++ None ∷ rest → Committed (before ++ None ∷ []) → Committed before
     commit_accepted before rest all next =
-        let to = read_to before rest None all in
+        let to = place_to final before rest tos None (le_of_eq len) all in
         let x = owner before rest to.0 all to.1 in
         let owner_is : (node_of_place tos (length before)).owner ≡ to.0.owner = ap (λ n. n.owner) (get_or_from_slice_get tos (length before) to.0 no_ref to.1) in
-        subst (λ k. At (after_commits before) (Goes (Committing sending stamp k))) (sym (from_here before rest all))
-        (subst (λ b. WillEnd o m p target (midway s p (goes_by (not b) (Some (sent_answer sending stamp)) (sending_driver d c Starting) (cmd.Send c) (Committing sending stamp (length before))) (after_commits before))) (sym (is_here before rest all))
+        subst (λ k. At (after_commits before) (Goes (Committing sending stamp k))) (sym (accepted_at final before rest all))
+        (subst (λ b. WillEnd o m p target (midway s p (goes_by (not b) (Some (sent_answer sending stamp)) (sending_driver d c Starting) (cmd.Send c) (Committing sending stamp (length before))) (after_commits before))) (sym (is_place_at final before rest all))
         (goes o m p target s d c placed is_driver (Committing sending stamp (length before)) (after_commits before) (λ y. committed y d.me (length before) stamp (slots to.0.owner)) (after_commits (before ++ None ∷ []))
         to.0.owner x.0 _ (commits_keep before) x.1 owner_is
         (ap (λ b. (took (sending_driver d c (Committing sending stamp (length before))) (out.Commit b), committed (after_commits before x.0) d.me (length before) stamp (get_or sending.slots (length before) []))) x.2
@@ -172,11 +145,7 @@ module _ (o : Opening) (m : Shortage) (p : ℕ) (target : Bus) (s : State) (d : 
     -- the SEND ends with its answer
     pub commits_go : WillEnd o m p target (midway s p (ended (sending_driver d c Starting) (cmd.Send c) (sent_answer sending stamp)) (after_commits final)) → At h (Goes (Committing sending stamp (accepted_from 0 final)))
     commits_go last =
-        same_parts (after_commits []) h (Goes (Committing sending stamp (accepted_from 0 final))) (λ y. none tos (h y))
+        same_at (after_commits []) h (Goes (Committing sending stamp (accepted_from 0 final))) (λ y. over_nothing (commit_at d.me stamp slots) tos (h y))
         (places_back final Committed commit_refused commit_accepted
         (subst (λ b. WillEnd o m p target (midway s p (goes_by (not b) (Some (sent_answer sending stamp)) (sending_driver d c Starting) (cmd.Send c) (Committing sending stamp (accepted_from (length final) final))) (after_commits final))) (sym (none_left final)) last)
         final [] refl)
-      where
-        none : (ts : List NodeRef) (y : PeerPart) → over (commit_at d.me stamp slots) 0 (zip ts []) y ≡ y
-        none [] y = refl
-        none (t ∷ ts) y = refl

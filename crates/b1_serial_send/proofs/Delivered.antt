@@ -2,7 +2,7 @@
 use Rattle.std.proofs.Common.{◌≡◌, ◌⊎◌, refl, sym, ap, ap₂, ◌∙◌, inl, inr, ℕ, zero, suc, ◌+◌, ◌≤◌, ◌==◌, Bool, true, false, cond, not, List, [], ◌∷◌, ◌++◌, map, fold, Option, Some, None, option_map, is_some, arith}
 use Rattle.std.specs.Prelude.{slice_get}
 use Rattle.std.proofs.lemmas.Bool.{eq-eqb, ne_eqb, eqb-true, cases_eq}
-use Rattle.std.proofs.lemmas.List.{append_assoc}
+use Rattle.std.proofs.lemmas.List.{append_assoc, append-nil}
 use Rattle.b1_model.specs.declared.naming.Key.{Key}
 use Rattle.b1_model.specs.declared.naming.NodeRef.{NodeRef}
 use Rattle.b1_model.specs.declared.parts.Slot.{Slot}
@@ -147,13 +147,9 @@ module _ (s : Letter) (stamp : ℕ) (whole : Bus) (q : ℕ) where
   gone_last : (k : Key) (dest : ℕ) (nodes : List NodeRef) (queue : List (Key × Entry)) → IsLast k queue → IsLast k (gone q dest nodes queue)
   gone_last k dest nodes queue last f there = last f (gone_has q dest nodes queue f there)
 
-  append_nil : (zs : List (Key × Entry)) → zs ≡ zs ++ []
-  append_nil [] = refl
-  append_nil (z ∷ zs) = ap (λ ys. z ∷ ys) (append_nil zs)
-
   pub delivered_read : (ds : Answered) (place : ℕ) (bus : Bus) (y : Part) → slice_get bus q ≡ Some y → ((x : NodeRef) → destroyed_in bus x ≡ destroyed_in whole x) → (1 ≤ count_at q ds → IsLast (place_key s stamp place) y.box)
       → slice_get (delivered_from s stamp place ds bus) q ≡ Some (behind place ds y)
-  delivered_read [] place bus y there same last = there ∙ ap (λ zs. Some (with_three y y.clock y.slices zs)) (append_nil y.box)
+  delivered_read [] place bus y there same last = there ∙ ap (λ zs. Some (with_three y y.clock y.slices zs)) (sym (append-nil y.box))
   delivered_read ((to, Some r) ∷ rest) place bus y there same last = delivered_read rest (place + 1) bus y there same (λ some. later_last s stamp place y.box (last some))
   delivered_read ((to, None) ∷ rest) place bus y there same last = by (to.owner == q) refl last (delivered_read rest (place + 1))
     where

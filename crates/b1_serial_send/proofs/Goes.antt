@@ -1,5 +1,5 @@
 -- One step of a SEND that is under way while no other driver does a step.
-use Rattle.std.proofs.Common.{◌≡◌, ap, ◌∙◌, ℕ, zero, suc, ◌<◌, Bool, true, false, is_some, map, set, Some, None, arith}
+use Rattle.std.proofs.Common.{◌≡◌, ap, ◌∙◌, ℕ, zero, suc, ◌<◌, Bool, true, false, is_some, map, set, Some, None, arith, subst}
 use Rattle.std.specs.Prelude.{slice_get}
 use Rattle.std.proofs.lemmas.List.{set-set}
 use Rattle.b1_model.specs.declared.naming.Opening.{Opening}
@@ -31,6 +31,10 @@ pub record Ends (o : Opening) (m : Shortage) (p : ℕ) (bus : Bus) (u : State) :
 -- whatever led to the state
 abbrev pub WillEnd : Opening → Shortage → ℕ → Bus → State → Type 0
 WillEnd o m p bus u = Reached o u → Ends o m p bus u
+
+-- the same where the parts are the same in other words
+pub same_parts : (o : Opening) (m : Shortage) (p : ℕ) (bus : Bus) (s : State) (e : DriverPart) (h j : PeerPart → PeerPart) → ((y : PeerPart) → h y ≡ j y) → WillEnd o m p bus (midway s p e h) → WillEnd o m p bus (midway s p e j)
+same_parts o m p bus s e h j same = subst (λ xs. WillEnd o m p bus (record { peers = xs; drivers = set s.drivers p e })) (map_same h j s.peers same)
 
 -- one step more
 one_more : (o : Opening) (m : Shortage) (p : ℕ) (bus : Bus) (u v : State) → own_step o m p None u ≡ v → is_open_at p u ≡ true → Ends o m p bus v → Ends o m p bus u

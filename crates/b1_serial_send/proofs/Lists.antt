@@ -1,6 +1,9 @@
 -- Lists of destinations and their answers, one answer after another.
 use Rattle.std.proofs.Common.{◌≡◌, refl, sym, ap, ◌∙◌, ℕ, suc, ◌+◌, max, Bool, true, false, cond, List, [], ◌∷◌, ◌++◌, map, filter, fold, length, zip, Option, Some, None, is_none, arith}
 use Rattle.std.specs.Prelude.{slice_get}
+use Rattle.std.proofs.lemmas.List.{append-nil, map-append}
+use Rattle.std.proofs.lemmas.List.Elements.{filter-append}
+use Rattle.std.proofs.lemmas.List.Sums.{fold-append}
 use Rattle.b1_model.specs.declared.naming.NodeRef.{NodeRef}
 use Rattle.b1_model.specs.declared.answers.Reason.{Reason}
 use Rattle.b1_model.specs.MachineParts.{PeerPart}
@@ -20,21 +23,10 @@ pub fold_max : (a b : ℕ) (xs : List ℕ) → fold max (max a b) xs ≡ max a (
 fold_max a b [] = refl
 fold_max a b (x ∷ rest) = ap (λ k. fold max k rest) (sym (max_max a b x)) ∙ fold_max a (max b x) rest
 
-pub fold_append : {X Y : Type 0} (f : Y → X → Y) (y : Y) (xs zs : List X) → fold f y (xs ++ zs) ≡ fold f (fold f y xs) zs
-fold_append f y [] zs = refl
-fold_append f y (x ∷ xs) zs = fold_append f (f y x) xs zs
-
-pub filter_append : {X : Type 0} (test : X → Bool) (xs zs : List X) → filter test (xs ++ zs) ≡ filter test xs ++ filter test zs
-filter_append test [] zs = refl
-filter_append test (x ∷ xs) zs = by (filter_append test xs zs) (test x)
-  where
-    by : filter test (xs ++ zs) ≡ filter test xs ++ filter test zs → (b : Bool) → cond b (x ∷ filter test (xs ++ zs)) (filter test (xs ++ zs)) ≡ cond b (x ∷ filter test xs) (filter test xs) ++ filter test zs
-    by further true = ap (λ ys. x ∷ ys) further
-    by further false = further
-
-pub map_more : {X Y : Type 0} (f : X → Y) (xs zs : List X) → map f (xs ++ zs) ≡ map f xs ++ map f zs
-map_more f [] zs = refl
-map_more f (x ∷ xs) zs = ap (λ ys. f x ∷ ys) (map_more f xs zs)
+-- the element behind a front of a list
+pub read_middle : {X : Type 0} (done : List X) (x : X) (rest : List X) → slice_get (done ++ x ∷ rest) (length done) ≡ Some x
+read_middle [] x rest = refl
+read_middle (y ∷ ys) x rest = read_middle ys x rest
 
 -- ---- one more answer
 
@@ -59,6 +51,11 @@ over_append f place [] es x = ap (λ k. over f k es x) (omega arith)
 over_append f place ((to, Some r) ∷ rest) es x = over_append f (place + 1) rest es x ∙ ap (λ k. over f k es (over f (place + 1) rest x)) (omega arith)
 over_append f place ((to, None) ∷ rest) es x = over_append f (place + 1) rest es (f place to x) ∙ ap (λ k. over f k es (over f (place + 1) rest (f place to x))) (omega arith)
 
+-- no answer, no change
+pub over_nothing : (f : ℕ → NodeRef → PeerPart → PeerPart) (tos : List NodeRef) (x : PeerPart) → over f 0 (zip tos []) x ≡ x
+over_nothing f [] x = refl
+over_nothing f (t ∷ ts) x = refl
+
 -- what a field keeps under each change it keeps under all
 pub over_keeps : {Y : Type 0} (view : PeerPart → Y) (f : ℕ → NodeRef → PeerPart → PeerPart) → ((place : ℕ) (to : NodeRef) (x : PeerPart) → view (f place to x) ≡ view x) → (place : ℕ) (ds : Answered) (x : PeerPart) → view (over f place ds x) ≡ view x
 over_keeps view f keeps place [] x = refl
@@ -81,14 +78,10 @@ module _ (s : Letter) (places : Places) (to : NodeRef) (is : slice_get s.to (len
   pub accepted_one : accepted s (places ++ None ∷ []) ≡ accepted s places ++ to ∷ []
   accepted_one =
       ap (λ ds. map (λ (z : NodeRef × Option Reason). z.0) (filter (λ (z : NodeRef × Option Reason). is_none z.1) ds)) (zip_more s.to places to None is)
-      ∙ ap (map (λ (z : NodeRef × Option Reason). z.0)) (filter_append (λ (z : NodeRef × Option Reason). is_none z.1) (zip s.to places) ((to, None) ∷ []))
-      ∙ map_more (λ (z : NodeRef × Option Reason). z.0) (filter (λ (z : NodeRef × Option Reason). is_none z.1) (zip s.to places)) ((to, None) ∷ [])
+      ∙ ap (map (λ (z : NodeRef × Option Reason). z.0)) (filter-append (λ (z : NodeRef × Option Reason). is_none z.1) (zip s.to places) ((to, None) ∷ []))
+      ∙ map-append (λ (z : NodeRef × Option Reason). z.0) (filter (λ (z : NodeRef × Option Reason). is_none z.1) (zip s.to places)) ((to, None) ∷ [])
 
   pub accepted_none : (r : Reason) → accepted s (places ++ Some r ∷ []) ≡ accepted s places
   accepted_none r =
       ap (λ ds. map (λ (z : NodeRef × Option Reason). z.0) (filter (λ (z : NodeRef × Option Reason). is_none z.1) ds)) (zip_more s.to places to (Some r) is)
-      ∙ ap (map (λ (z : NodeRef × Option Reason). z.0)) (filter_append (λ (z : NodeRef × Option Reason). is_none z.1) (zip s.to places) ((to, Some r) ∷ []) ∙ append_nil (filter (λ (z : NodeRef × Option Reason). is_none z.1) (zip s.to places)))
-    where
-      append_nil : {X : Type 0} (xs : List X) → xs ++ [] ≡ xs
-      append_nil [] = refl
-      append_nil (x ∷ xs) = ap (λ ys. x ∷ ys) (append_nil xs)
+      ∙ ap (map (λ (z : NodeRef × Option Reason). z.0)) (filter-append (λ (z : NodeRef × Option Reason). is_none z.1) (zip s.to places) ((to, Some r) ∷ []) ∙ append-nil (filter (λ (z : NodeRef × Option Reason). is_none z.1) (zip s.to places)))

@@ -31,9 +31,9 @@ use Rattle.b1_serial_rest.specs.Standing.{part_of, bus_of}
 use Rattle.b1_serial_rest.specs.Rest.{BoxesRight, AtRest}
 use Rattle.b1_serial_rest.proofs.Shown.{boxes_same}
 use Rattle.b1_serial_send.proofs.Midway.{Answered, with_begin, over, stage_at, attach_at, attach_all, stamp_at, sync_at, commit_at, sending_driver, midway}
-use Rattle.b1_serial_send.proofs.Lists.{over_keeps, zip_len}
+use Rattle.b1_serial_send.proofs.Lists.{over_keeps, zip_len, over_nothing}
 use Rattle.b1_serial_send.proofs.Parts.{at_keeps, at_own, map_same, read_map}
-use Rattle.b1_serial_send.proofs.Goes.{WillEnd}
+use Rattle.b1_serial_send.proofs.Goes.{WillEnd, same_parts}
 use Rattle.b1_serial_send.proofs.Charges.{count_at}
 use Rattle.b1_serial_send.proofs.Staging.{turned_to}
 use Rattle.b1_serial_send.proofs.Attaching.{no_slots, rows, rows_none_done, rows_at, attach_me, attaches_keep, places_attach}
@@ -63,10 +63,6 @@ rows_empty bus [] before = refl
 rows_empty bus (t ∷ ts) [] = ap (λ rs. [] ∷ rs) (rows_empty bus ts [])
 rows_empty bus (t ∷ ts) (None ∷ rest) = ap (λ rs. [] ∷ rs) (rows_empty bus ts rest)
 rows_empty bus (t ∷ ts) (Some r ∷ rest) = ap (λ rs. [] ∷ rs) (rows_empty bus ts rest)
-
-none_over : (f : ℕ → NodeRef → PeerPart → PeerPart) (tos : List NodeRef) (x : PeerPart) → over f 0 (zip tos []) x ≡ x
-none_over f [] x = refl
-none_over f (t ∷ ts) x = refl
 
 module _ {o : Opening} {s : State} {bus : Bus} (opens : IsOpening o) (reached : Reached o s) (rest : AtRest o s bus) (m : Shortage)
     (d : DriverPart) (is_driver : slice_get s.drivers d.me ≡ Some d) (x : PeerPart) (is_peer : slice_get s.peers d.me ≡ Some x) (c : SendCmd) (begun : Begun)
@@ -280,14 +276,14 @@ module _ {o : Opening} {s : State} {bus : Bus} (opens : IsOpening o) (reached : 
         start : Sending
         start = all_staged begun final first
 
-        same_parts : (h j : PeerPart → PeerPart) (turn : Turn) → ((y : PeerPart) → h y ≡ j y) → At h turn → At j turn
-        same_parts h j turn same = subst (λ xs. WillEnd o m d.me target (record { peers = xs; drivers = set s.drivers d.me (turned_to d c turn) })) (map_same h j s.peers same)
+        same_at : (h j : PeerPart → PeerPart) (turn : Turn) → ((y : PeerPart) → h y ≡ j y) → At h turn → At j turn
+        same_at h j turn same = same_parts o m d.me target s (turned_to d c turn) h j same
 
         by : (w : List NodeRef) → begun.with ≡ w → At staged_part (Goes (attaching start (accepted_from 0 final) 0))
         by [] nil =
             subst (λ b. At staged_part (Goes (cond b (Attaching start (accepted_from 0 final) 0) (cond (b && is_place (accepted_from (accepted_from 0 final + 1) final) final) (Attaching start (accepted_from (accepted_from 0 final + 1) final) 0) (Stamping start))))) (sym (ap (λ w. nat_lt 0 (length w)) nil))
             (subst (λ z. At staged_part (Goes (Stamping z))) (sym start_is)
-            (same_parts attached_part staged_part (Goes (Stamping sending)) nothing stamps))
+            (same_at attached_part staged_part (Goes (Stamping sending)) nothing stamps))
           where
             nothing : (y : PeerPart) → attached_part y ≡ staged_part y
             nothing y = over_keeps (λ z. z) (attach_all begun.with) (λ place to z. ap (λ w. fold (λ v node. attach_at to.owner node v) z w) nil) 0 ds (staged_part y)
@@ -300,8 +296,8 @@ module _ {o : Opening} {s : State} {bus : Bus} (opens : IsOpening o) (reached : 
             subst (λ b. At staged_part (Goes (cond b (Attaching start (accepted_from 0 final) 0) (cond (b && is_place (accepted_from (accepted_from 0 final + 1) final) final) (Attaching start (accepted_from (accepted_from 0 final + 1) final) 0) (Stamping start))))) (sym (lt-ltb 0 (length begun.with) some))
             (subst (λ z. At staged_part (Goes (Attaching z (accepted_from 0 final) 0))) (sym start_is)
             (subst (λ b. At staged_part (Goes (cond b (Attaching none_yet (accepted_from 0 final) 0) (Stamping none_yet)))) (any_is final ∙ any)
-            (same_parts (λ y. over (attach_all begun.with) 0 (zip begun.to []) (staged_part y)) staged_part (Goes (cond (is_place (accepted_from 0 final) final) (Attaching none_yet (accepted_from 0 final) 0) (Stamping none_yet))) (λ y. none_over (attach_all begun.with) begun.to (staged_part y))
-            (places_attach o m d.me target s d c begun (placed opens reached rest) is_driver f with_nodes staged_part staged_me (λ y j. ap (λ zs. (get_or zs j no_node).state) (staged_nodes y)) final len first some carried stamps final [] refl))))
+            (same_at (λ y. over (attach_all begun.with) 0 (zip begun.to []) (staged_part y)) staged_part (Goes (cond (is_place (accepted_from 0 final) final) (Attaching none_yet (accepted_from 0 final) 0) (Stamping none_yet))) (λ y. over_nothing (attach_all begun.with) begun.to (staged_part y))
+            (places_attach o m d.me target s d c begun (placed opens reached rest) is_driver f with_nodes staged_part staged_me (λ y j. ap (λ zs. (get_or zs j no_node).state) (staged_nodes y)) final len first some carried stamps))))
           where
             some : 0 < length begun.with
             some = let e = ap length more in omega (arith, e)

@@ -3,8 +3,9 @@ use Rattle.std.proofs.Common.{◌≡◌, refl, sym, ap, ◌∙◌, subst, inl, i
 use Rattle.std.specs.Prelude.{slice_get}
 use Rattle.std.specs.Bool.{then_some}
 use Rattle.std.proofs.lemmas.Bool.{ltb-true, lt-ltb, false_from_ne_true}
-use Rattle.std.proofs.lemmas.List.{append_assoc, append-nil, length-append}
+use Rattle.std.proofs.lemmas.List.{append_assoc, append-nil, length-append, map-append}
 use Rattle.std.proofs.lemmas.Option.{same_Some, get_or_from_slice_get}
+use Rattle.std.proofs.lemmas.List.Sums.{fold-append}
 use Rattle.b1_model.specs.declared.naming.NodeRef.{NodeRef}
 use Rattle.b1_model.specs.declared.naming.Opening.{Opening}
 use Rattle.b1_model.specs.declared.commands.Command.TheVariants as cmd
@@ -32,7 +33,7 @@ use Rattle.b1_serial_bus.specs.Places.{answered}
 use Rattle.b1_serial_bus.specs.Places as replies
 use Rattle.b1_serial_rest.specs.Standing.{part_of}
 use Rattle.b1_serial_send.proofs.Midway.{at_part, over, stage_at, sending_driver, midway}
-use Rattle.b1_serial_send.proofs.Lists.{over_keeps, over_one, over_none, accepted_one, accepted_none, fold_append, map_more}
+use Rattle.b1_serial_send.proofs.Lists.{over_keeps, over_one, over_none, accepted_one, accepted_none, read_middle}
 use Rattle.b1_serial_send.proofs.Parts.{Placed, at_keeps}
 use Rattle.b1_serial_send.proofs.Goes.{WillEnd, goes}
 use Rattle.b1_serial_send.proofs.Answers.{answer_so}
@@ -70,10 +71,6 @@ answered_more bus s short (to ∷ rest) places =
     let answer = replies.answer_of bus s places to (short (Some (length places))) in
     let k = answered_more bus s short rest (places ++ answer ∷ []) in
     (answer ∷ k.0, k.1 ∙ append_assoc places (answer ∷ []) k.0)
-
-read_middle : {X : Type 0} (done : List X) (x : X) (rest : List X) → slice_get (done ++ x ∷ rest) (length done) ≡ Some x
-read_middle [] x rest = refl
-read_middle (y ∷ ys) x rest = read_middle ys x rest
 
 -- ---- the stages
 
@@ -218,8 +215,8 @@ module _ (o : Opening) (m : Shortage) (p : ℕ) (target : Bus) (s : State) (d : 
         collects : collected_at (places ++ None ∷ []) ≡ max (collected_at places) (clock_at bus to)
         collects =
             ap (λ tos. fold max 0 (map (clock_at bus) tos)) (accepted_one letter places to is_to)
-            ∙ ap (fold max 0) (map_more (clock_at bus) (accepted letter places) (to ∷ []))
-            ∙ fold_append max 0 (map (clock_at bus) (accepted letter places)) (clock_at bus to ∷ [])
+            ∙ ap (fold max 0) (map-append (clock_at bus) (accepted letter places) (to ∷ []))
+            ∙ fold-append max 0 (map (clock_at bus) (accepted letter places)) (clock_at bus to ∷ [])
 
         by_mode : (a : Reason) → answer places (collected_at places) to is_to there ≡ Some a → (b : Bool) → c.go_on ≡ b → At (places ++ Some a ∷ []) (cond b (staging begun (places ++ Some a ∷ []) (collected_at places)) (taken_back places a))
         by_mode a is true goes_on =

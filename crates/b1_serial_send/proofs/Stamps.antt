@@ -2,13 +2,14 @@
 use Rattle.std.proofs.Common.{◌≡◌, refl, sym, ap, ◌∙◌, inl, inr, ℕ, suc, ◌+◌, ◌≤◌, ◌==◌, max, Bool, true, false, cond, not, nat_lt, List, [], ◌∷◌, ◌++◌, map, fold, filter, length, zip, Option, Some, None, is_none, arith}
 use Rattle.std.specs.Prelude.{slice_get}
 use Rattle.std.proofs.lemmas.Bool.{lt-ltb, le-leb, false_from_ne_true, eqb-true}
+use Rattle.std.proofs.lemmas.List.Sums.{fold-append}
 use Rattle.b1_model.specs.declared.naming.NodeRef.{NodeRef}
 use Rattle.b1_model.specs.declared.answers.Reason.{Reason}
 use Rattle.b1_model.specs.MachineDriver.{next_accepted, accepted_from, is_place}
 use Rattle.b1_step.specs.Rights.{Has}
 use Rattle.b1_serial_bus.specs.Letters.{Places}
 use Rattle.b1_serial_send.proofs.Midway.{Answered}
-use Rattle.b1_serial_send.proofs.Lists.{max_twice, fold_max, fold_append}
+use Rattle.b1_serial_send.proofs.Lists.{max_twice, fold_max}
 use Rattle.b1_serial_send.proofs.Charges.{count_at}
 use Rattle.b1_serial_send.proofs.Accepted.{not_below}
 
@@ -66,7 +67,7 @@ collected_once vs k (Some r ∷ rest) any = collected_once vs k rest any
 
 pub stamps_same : (clock : ℕ) (owners voids : List ℕ) → max clock (fold max (fold max 0 owners) voids) ≡ fold max clock (owners ++ voids)
 stamps_same clock owners voids =
-    sym (fold_append max clock owners voids
+    sym (fold-append max clock owners voids
     ∙ ap (λ k. fold max k voids) (greatest clock owners)
     ∙ fold_max clock (fold max 0 owners) voids)
 

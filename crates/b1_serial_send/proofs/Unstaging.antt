@@ -29,12 +29,11 @@ use Rattle.b1_serial_bus.specs.Parts.{Bus}
 use Rattle.b1_serial_bus.specs.Letters.{Letter, Places, letter_len}
 use Rattle.b1_serial_rest.specs.Standing.{with_line, lines_of}
 use Rattle.b1_serial_send.proofs.Midway.{Answered, over, stage_at, unstage_at, sending_driver, midway}
-use Rattle.b1_serial_send.proofs.Lists.{over_keeps, over_one, over_none}
+use Rattle.b1_serial_send.proofs.Lists.{over_keeps, over_one, over_none, over_nothing}
 use Rattle.b1_serial_send.proofs.Parts.{Placed, at_keeps, map_same}
-use Rattle.b1_serial_send.proofs.Goes.{WillEnd, goes}
-use Rattle.b1_serial_send.proofs.Accepted.{accepted_here, refused_here, none_left, place_here}
+use Rattle.b1_serial_send.proofs.Goes.{WillEnd, goes, same_parts}
+use Rattle.b1_serial_send.proofs.Accepted.{none_left, place_to, refused_from, accepted_at, is_place_at, places_back}
 use Rattle.b1_serial_send.proofs.Staging.{turned_to, turned_so}
-use Rattle.b1_serial_send.proofs.Committing.{places_back}
 use Rattle.b1_serial_send.proofs.Keys.{NonePass, find_past, without_one}
 use Rattle.b1_serial_send.proofs.Copies.{copy, copies, copies_all}
 use Rattle.b1_serial_send.proofs.Finals.{bare}
@@ -167,33 +166,25 @@ module _ (o : Opening) (m : Shortage) (target : Bus) (s : State) (d : DriverPart
   unstages_keep : (before : Places) (y : PeerPart) → (after_unstages before y).me ≡ y.me
   unstages_keep before y = over_keeps (λ z. z.me) (unstage_at d.me) (λ place to x. unstage_keeps (λ z. z.me) (λ z queue slices handles. refl) d.me place to x) 0 (zip begun.to before) (g y) ∙ g_keeps y
 
-  same_parts : (h j : PeerPart → PeerPart) (turn : Turn) → ((y : PeerPart) → h y ≡ j y) → At h turn → At j turn
-  same_parts h j turn same = subst (λ xs. WillEnd o m d.me target (record { peers = xs; drivers = set s.drivers d.me (turned_to d c turn) })) (map_same h j s.peers same)
-
-  read_to : (before rest : Places) (a : Option Reason) → answers ≡ before ++ a ∷ rest → (to : NodeRef) × (slice_get begun.to (length before) ≡ Some to)
-  read_to before rest a all = (get_or begun.to (length before) no_ref, slice_get-get_or begun.to (length before) no_ref (let one = ap length all in let two = length-append before (a ∷ rest) in omega (arith, one, two, len)))
+  same_at : (h j : PeerPart → PeerPart) (turn : Turn) → ((y : PeerPart) → h y ≡ j y) → At h turn → At j turn
+  same_at h j turn same = same_parts o m d.me target s (turned_to d c turn) h j same
 
   abbrev Back : Places → Type 0
   Back before = At (after_unstages before) (unstaging begun answers refused (accepted_from (length before) answers))
 
   back_refused : (before rest : Places) (r : Reason) → answers ≡ before ++ Some r ∷ rest → Back (before ++ Some r ∷ []) → Back before
   back_refused before rest r all next =
-      let to = read_to before rest (Some r) all in
-      let same_from : accepted_from (length (before ++ Some r ∷ [])) answers ≡ accepted_from (length before) answers =
-      ap (λ k. accepted_from k answers) (length-append before (Some r ∷ []))
-      ∙ ap (accepted_from (length before + 1)) all ∙ sym (refused_here before rest r) ∙ ap (accepted_from (length before)) (sym all) in
-      same_parts (after_unstages (before ++ Some r ∷ [])) (after_unstages before) (unstaging begun answers refused (accepted_from (length before) answers)) (λ y. over_none letter before to.0 to.1 (unstage_at d.me) r (g y))
-      (subst (λ k. At (after_unstages (before ++ Some r ∷ [])) (unstaging begun answers refused k)) same_from next)
+      let to = place_to answers before rest begun.to (Some r) len all in
+      same_at (after_unstages (before ++ Some r ∷ [])) (after_unstages before) (unstaging begun answers refused (accepted_from (length before) answers)) (λ y. over_none letter before to.0 to.1 (unstage_at d.me) r (g y))
+      (subst (λ k. At (after_unstages (before ++ Some r ∷ [])) (unstaging begun answers refused k)) (refused_from answers before rest r all) next)
 
   back_accepted : (before rest : Places) → answers ≡ before ++ None ∷ rest → Back (before ++ None ∷ []) → Back before
   back_accepted before rest all next =
-      let to = read_to before rest None all in
+      let to = place_to answers before rest begun.to None len all in
       let x = owner before rest to.0 all to.1 in
       let owner_is : (node_of_place begun.to (length before)).owner ≡ to.0.owner = ap (λ n. n.owner) (get_or_from_slice_get begun.to (length before) to.0 no_ref to.1) in
-      let from_here : accepted_from (length before) answers ≡ length before = ap (accepted_from (length before)) all ∙ accepted_here before rest in
-      let is_here : is_place (length before) answers ≡ true = ap (is_place (length before)) all ∙ place_here before rest None in
-      subst (λ k. At (after_unstages before) (unstaging begun answers refused k)) (sym from_here)
-      (subst (λ b. At (after_unstages before) (cond b (Goes (Unstaging begun answers refused (length before))) (driver.Ends (ans.Refused refused)))) (sym is_here)
+      subst (λ k. At (after_unstages before) (unstaging begun answers refused k)) (sym (accepted_at answers before rest all))
+      (subst (λ b. At (after_unstages before) (cond b (Goes (Unstaging begun answers refused (length before))) (driver.Ends (ans.Refused refused)))) (sym (is_place_at answers before rest all))
       (goes o m d.me target s d c placed is_driver (Unstaging begun answers refused (length before)) (after_unstages before) (λ y. unstaged y d.me (length before)) (after_unstages (before ++ None ∷ []))
       to.0.owner x.0 _ (unstages_keep before) x.1 owner_is
       (ap (λ e. (e, unstaged (after_unstages before x.0) d.me (length before))) (turned_so d c (Unstaging begun answers refused (length before)) (unstaging begun answers refused (accepted_from (length before + 1) answers))))
@@ -203,11 +194,7 @@ module _ (o : Opening) (m : Shortage) (target : Bus) (s : State) (d : DriverPart
   -- the SEND ends with its refusal
   pub unstages_go : WillEnd o m d.me target (midway s d.me (ended (sending_driver d c Starting) (cmd.Send c) (ans.Refused refused)) (after_unstages answers)) → At g (unstaging begun answers refused (accepted_from 0 answers))
   unstages_go last =
-      same_parts (after_unstages []) g (unstaging begun answers refused (accepted_from 0 answers)) (λ y. none begun.to (g y))
+      same_at (after_unstages []) g (unstaging begun answers refused (accepted_from 0 answers)) (λ y. over_nothing (unstage_at d.me) begun.to (g y))
       (places_back answers Back back_refused back_accepted
       (subst (λ b. At (after_unstages answers) (cond b (Goes (Unstaging begun answers refused (accepted_from (length answers) answers))) (driver.Ends (ans.Refused refused)))) (sym (none_left answers)) last)
       answers [] refl)
-    where
-      none : (ts : List NodeRef) (y : PeerPart) → over (unstage_at d.me) 0 (zip ts []) y ≡ y
-      none [] y = refl
-      none (t ∷ ts) y = refl
