@@ -4,7 +4,7 @@ use Rattle.std.specs.Prelude.{slice_get}
 use Rattle.std.specs.List.{cons_option}
 use Rattle.std.proofs.lemmas.Bool.{lt-ltb, eq-eqb, ne_eqb, cases_eq}
 use Rattle.std.proofs.lemmas.List.{append_assoc, append-nil, length-append, set-set, get_or-set_same, map-append}
-use Rattle.std.proofs.lemmas.Option.{get_or_from_slice_get, slice_get_within, slice_get-get_or}
+use Rattle.std.proofs.lemmas.Option.{get_or_from_slice_get, slice_get_within}
 use Rattle.std.proofs.lemmas.List.Sums.{fold-append}
 use Rattle.b1_model.specs.declared.naming.NodeRef.{NodeRef}
 use Rattle.b1_model.specs.declared.naming.Opening.{Opening}
@@ -37,7 +37,7 @@ use Rattle.b1_serial_bus.specs.Delivery.{slot_for}
 use Rattle.b1_serial_rest.specs.Standing.{stamp_of, part_of}
 use Rattle.b1_serial_send.proofs.Midway.{over, attach_at, attach_all, sending_driver, midway}
 use Rattle.b1_serial_send.proofs.Lists.{over_keeps, over_one, over_none}
-use Rattle.b1_serial_send.proofs.Parts.{Placed, at_keeps, map_same}
+use Rattle.b1_serial_send.proofs.Parts.{Placed, at_keeps}
 use Rattle.b1_serial_send.proofs.Goes.{WillEnd, goes, same_parts}
 use Rattle.b1_serial_send.proofs.Answers.{destroyed_so}
 use Rattle.b1_serial_send.proofs.Accepted.{not_below, none_left, set_middle, set_itself, place_to, refused_from, accepted_at, is_place_at, places_back}

@@ -25,8 +25,7 @@ use Rattle.b1_serial_bus.specs.Begin as begin
 use Rattle.b1_serial_bus.specs.Begin.{begin_reasons}
 use Rattle.b1_serial_rest.specs.Standing.{stamp_of, own_of, line_under, with_line, lines_of, part_of}
 use Rattle.b1_serial_rest.proofs.Lines.{put_numbered}
-use Rattle.b1_serial_rest.proofs.Records.{lines_name}
-use Rattle.b1_serial_rest.proofs.Wires.{serial_same, node_made}
+use Rattle.b1_serial_rest.proofs.Wires.{serial_same, node_made, named_same}
 use Rattle.b1_serial_send.proofs.Parts.{map_same}
 use Rattle.b1_serial_send.proofs.Answers.{first_of_more, destroyed_so}
 
@@ -42,12 +41,6 @@ filter_map_same a b (x ∷ rest) same = ap₂ cons_option (same x) (filter_map_s
 
 -- ---- names
 
--- a number names the same node
-pub named_so : (number : ℕ) (x : PeerPart) (d : DriverPart) → named.node_named (part_of x d) number ≡ tables.node_named x number
-named_so number x d =
-    ap (λ r. cond (is_own number) (elim r [ None ↦ None | Some serial ↦ Some (record { owner = x.me; serial = serial }) ]) (named.held_node (part_of x d) number)) (serial_same number x.nodes)
-    ∙ ap (λ r. cond (is_own number) (elim (tables.serial_of number x.nodes) [ None ↦ None | Some serial ↦ Some (record { owner = x.me; serial = serial }) ]) r) (lines_name number x.handles)
-
 -- the nodes made at its begin
 made_so : (peers : ℕ) (numbers : List ℕ) (nodes : List NodePart) → fold named.with_made (map own_of nodes) numbers ≡ map own_of (fold (λ ns number. tables.with_made peers number ns) nodes numbers)
 made_so peers [] nodes = refl
@@ -61,7 +54,7 @@ pub letter_so : (c : SendCmd) (x : PeerPart) (d : DriverPart) → letter_of c (p
 letter_so c x d = ap₂ (λ tos with. record { origin = x.me; user = x.user; to = tos; with = with; payload = c.payload }) (nodes c.to) (nodes c.with)
   where
     nodes : (numbers : List ℕ) → filter_map (named.node_named (part_of (begun_part x c) d)) numbers ≡ filter_map (tables.node_named (begun_part x c)) numbers
-    nodes numbers = filter_map_same (named.node_named (part_of (begun_part x c) d)) (tables.node_named (begun_part x c)) numbers (λ n. named_so n (begun_part x c) d)
+    nodes numbers = filter_map_same (named.node_named (part_of (begun_part x c) d)) (tables.node_named (begun_part x c)) numbers (λ n. named_same n (begun_part x c))
 
 -- ---- refusals
 
@@ -104,7 +97,7 @@ module _ (x : PeerPart) (d : DriverPart) (living : (j : ℕ) → is_dying (node_
   dead_so number = ap₂ (cond (is_own number)) (own_dead_so number) (lines_dead number x.handles)
 
   unknown_so : (numbers : List ℕ) → begin.unknown_reason (part_of x d) numbers ≡ machine.unknown_reason x numbers
-  unknown_so numbers = ap (option_map (λ n. reason.Unknown n)) (find_same (λ n. is_none (named.node_named (part_of x d) n)) (machine.is_unknown x) numbers (λ n. ap is_none (named_so n x d)))
+  unknown_so numbers = ap (option_map (λ n. reason.Unknown n)) (find_same (λ n. is_none (named.node_named (part_of x d) n)) (machine.is_unknown x) numbers (λ n. ap is_none (named_same n x)))
 
   abbrev checks : SendCmd → Option Reason → Option Reason → Option Reason → List (Option Reason)
   checks c one two three =

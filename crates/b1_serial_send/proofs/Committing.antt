@@ -1,8 +1,8 @@
 -- The stamp of a SEND, its syncs and its commits.
-use Rattle.std.proofs.Common.{◌≡◌, refl, sym, ap, ◌∙◌, subst, ℕ, ◌+◌, true, cond, not, List, [], ◌∷◌, ◌++◌, length, set, zip, get_or, Option, Some, None, arith, le_of_eq}
+use Rattle.std.proofs.Common.{◌≡◌, refl, sym, ap, ◌∙◌, subst, ℕ, ◌+◌, true, cond, not, List, [], ◌∷◌, ◌++◌, length, zip, get_or, Option, Some, None, le_of_eq}
 use Rattle.std.specs.Prelude.{slice_get}
-use Rattle.std.proofs.lemmas.List.{append_assoc, append-nil, length-append}
-use Rattle.std.proofs.lemmas.Option.{get_or_from_slice_get, slice_get-get_or}
+use Rattle.std.proofs.lemmas.List.{length-append}
+use Rattle.std.proofs.lemmas.Option.{get_or_from_slice_get}
 use Rattle.b1_model.specs.declared.naming.Key.{Key}
 use Rattle.b1_model.specs.declared.naming.NodeRef.{NodeRef}
 use Rattle.b1_model.specs.declared.naming.Opening.{Opening}
@@ -16,14 +16,14 @@ use Rattle.b1_model.specs.declared.events.Phase.TheVariants.{Starting, Stamping,
 use Rattle.b1_model.specs.declared.events.Sending.{Sending}
 use Rattle.b1_model.specs.MachineParts.{PeerPart, DriverPart, State}
 use Rattle.b1_model.specs.MachineSend.{final_stamp, synced, find_stage, committed_by, committed, is_committed}
-use Rattle.b1_model.specs.MachineDriver.{Turn, Goes, no_ref, node_of_place, accepted_from, is_place, syncing}
+use Rattle.b1_model.specs.MachineDriver.{Turn, Goes, no_ref, node_of_place, accepted_from, syncing}
 use Rattle.b1_model.specs.MachineTook.{took, turned, goes_by, ended, sent_answer}
 use Rattle.b1_schedule.specs.Shortage.{Shortage}
 use Rattle.b1_serial_bus.specs.Parts.{Bus}
 use Rattle.b1_serial_bus.specs.Letters.{Letter, Places}
 use Rattle.b1_serial_send.proofs.Midway.{over, stamp_at, sync_at, commit_at, sending_driver, midway}
 use Rattle.b1_serial_send.proofs.Lists.{over_keeps, over_one, over_none, over_nothing}
-use Rattle.b1_serial_send.proofs.Parts.{Placed, at_keeps, map_same}
+use Rattle.b1_serial_send.proofs.Parts.{Placed, at_keeps}
 use Rattle.b1_serial_send.proofs.Goes.{WillEnd, goes, same_parts}
 use Rattle.b1_serial_send.proofs.Accepted.{none_left, place_to, refused_from, accepted_at, is_place_at, places_back}
 use Rattle.b1_serial_send.proofs.Staging.{turned_to, turned_so}

@@ -3,7 +3,7 @@ use Rattle.std.proofs.Common.{◌≡◌, refl, sym, ap, ◌∙◌, subst, inl, i
 use Rattle.std.specs.Prelude.{slice_get}
 use Rattle.std.proofs.lemmas.Bool.{eq-eqb, eqb-true, false_from_ne_true, cases_lt}
 use Rattle.std.proofs.lemmas.List.{get_or_past}
-use Rattle.std.proofs.lemmas.Option.{same_Some, slice_get-map, slice_get_within, slice_get-get_or}
+use Rattle.std.proofs.lemmas.Option.{same_Some, slice_get-map}
 use Rattle.b1_model.specs.declared.naming.Key.{Key}
 use Rattle.b1_model.specs.declared.naming.NodeRef.{NodeRef}
 use Rattle.b1_model.specs.declared.naming.Opening.{Opening}
@@ -29,6 +29,8 @@ use Rattle.b1_serial_bus.specs.Parts.{Bus, at_peer}
 use Rattle.b1_serial_bus.specs.Named.{making}
 use Rattle.b1_serial_rest.specs.Standing.{part_of}
 use Rattle.b1_serial_rest.specs.Rest.{AtRest}
+use Rattle.b1_serial_rest.proofs.Living.{AreLiving, made_living}
+use Rattle.b1_serial_whole.proofs.Quiet.{driver_beside}
 use Rattle.b1_serial_send.proofs.Midway.{with_begin, midway}
 use Rattle.b1_serial_send.proofs.Parts.{Placed, at_keeps}
 use Rattle.b1_serial_send.proofs.Keys.{without_none}
@@ -39,25 +41,16 @@ use Rattle.b1_serial_send.proofs.Begun.{making_so}
 
 -- ---- nodes that are made
 
-abbrev AreLiving : List NodePart → Type 0
-AreLiving nodes = (j : ℕ) → is_dying (get_or nodes j no_node).state ≡ false
-
-living_more : (nodes : List NodePart) (n : NodePart) → is_dying n.state ≡ false → AreLiving nodes → AreLiving (nodes ++ n ∷ [])
-living_more [] n fresh living zero = fresh
-living_more [] n fresh living (suc j) = refl
-living_more (k ∷ rest) n fresh living zero = living zero
-living_more (k ∷ rest) n fresh living (suc j) = living_more rest n fresh (λ i. living (suc i)) j
-
-living_made : (peers number : ℕ) (nodes : List NodePart) → AreLiving nodes → AreLiving (with_made peers number nodes)
-living_made peers number nodes living = by (serial_of number nodes)
-  where
-    by : (r : Option ℕ) → AreLiving (elim r [ None ↦ nodes ++ record { number = number; state = Live; counts = replicate peers 0; taken = false } ∷ [] | Some serial ↦ nodes ])
-    by None = living_more nodes (record { number = number; state = Live; counts = replicate peers 0; taken = false }) refl living
-    by (Some serial) = living
-
 living_all : (peers : ℕ) (numbers : List ℕ) (nodes : List NodePart) → AreLiving nodes → AreLiving (fold (λ ns number. with_made peers number ns) nodes numbers)
 living_all peers [] nodes living = living
-living_all peers (n ∷ rest) nodes living = living_all peers rest (with_made peers n nodes) (living_made peers n nodes living)
+living_all peers (n ∷ rest) nodes living = living_all peers rest (with_made peers n nodes) (made_living peers n nodes living)
+
+-- by its serial
+living_at : (nodes : List NodePart) → AreLiving nodes → (j : ℕ) → is_dying (get_or nodes j no_node).state ≡ false
+living_at nodes living j = elim (cases_lt j (length nodes)) [
+  | inl less ↦ living (get_or nodes j no_node) (has_within nodes j no_node less)
+  | inr past ↦ ap (λ n. is_dying n.state) (get_or_past nodes j no_node past)
+]
 
 -- a live node stays
 live_more : (nodes : List NodePart) (n : NodePart) (j : ℕ) → is_live (get_or nodes j no_node).state ≡ true → get_or (nodes ++ n ∷ []) j no_node ≡ get_or nodes j no_node
@@ -95,18 +88,8 @@ module _ {o : Opening} {s : State} {bus : Bus} (opens : IsOpening o) (reached : 
   pub placed : Placed s.peers
   placed q x is = (rest.numbered.peers q x is).me
 
-  -- the driver beside a part
-  pub beside : (q : ℕ) (x : PeerPart) → IsPeer s q x → (w : DriverPart) × IsDriver s q w
-  beside q x is = (get_or s.drivers q no_driver, slice_get-get_or s.drivers q no_driver (let one = slice_get_within s.peers q x is in let two = rest.numbered.as_many_peers in let three = rest.numbered.as_many_drivers in omega (arith, one, two, three)))
-    where
-      no_driver : DriverPart
-      no_driver = record { me = 0; calls = []; shut = false; doing = None; owed = []; told = false; attempted = None; attempts = 0 }
-
   pub living : (q : ℕ) (x : PeerPart) → IsPeer s q x → (j : ℕ) → is_dying (node_at x j).state ≡ false
-  living q x is j = elim (cases_lt j (length x.nodes)) [
-    | inl less ↦ rest.quiet.stamped q x (get_or x.nodes j no_node) is (has_within x.nodes j no_node less)
-    | inr past ↦ ap (λ n. is_dying n.state) (get_or_past x.nodes j no_node past)
-  ]
+  living q x is = living_at x.nodes (λ n there. rest.quiet.stamped q x n is there)
 
   -- no stamp of a queue is above the clock
   pub low : (q : ℕ) (x : PeerPart) (f : Key × Entry) → IsPeer s q x → Has x.queue f → f.0.stamp ≤ x.clock
@@ -125,7 +108,7 @@ module _ {o : Opening} {s : State} {bus : Bus} (opens : IsOpening o) (reached : 
   module _ (p : ℕ) (c : SendCmd) where
     pub begun_living : (q : ℕ) (x : PeerPart) → IsPeer s q x → (j : ℕ) → is_dying (node_at (with_begin p c x) j).state ≡ false
     begun_living q x is j = elim (p == x.me) as (λ b. is_dying (node_at (cond b (begun_part x c) x) j).state ≡ false) [
-      | true ↦ living_all x.peers (filter is_own c.with) x.nodes (living q x is) j
+      | true ↦ living_at (begun_part x c).nodes (living_all x.peers (filter is_own c.with) x.nodes (λ n there. rest.quiet.stamped q x n is there)) j
       | false ↦ living q x is j
     ]
 
@@ -191,5 +174,5 @@ module _ {o : Opening} {s : State} {bus : Bus} (opens : IsOpening o) (reached : 
         by None none = absurd (cc (sym made.1 ∙ slice_get-map (with_begin p c) s.peers node.owner ∙ ap (option_map (with_begin p c)) none))
         by (Some x) is =
             let same : with_begin p c x ≡ made.0 = same_Some (with_begin p c x) made.0 (sym (slice_get-map (with_begin p c) s.peers node.owner ∙ ap (option_map (with_begin p c)) is) ∙ made.1) in
-            let w = beside node.owner x is in
+            let w = driver_beside rest.numbered node.owner x is in
             (x, w.0, is, begun_there node.owner x w.0 is w.1, subst (λ z. node.serial < length z.nodes) (sym same) made.2, begun_living node.owner x is node.serial)

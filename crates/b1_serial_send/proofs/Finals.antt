@@ -1,5 +1,5 @@
 -- What a SEND makes of one peer's part, field by field.
-use Rattle.std.proofs.Common.{◌≡◌, refl, sym, ap, ap₂, ◌∙◌, subst, inl, inr, ℕ, zero, suc, ◌+◌, ◌<◌, ◌≤◌, ◌==◌, ◌&&◌, max, Bool, true, false, cond, List, [], ◌∷◌, ◌++◌, map, get_or, length, Option, Some, None, zero-add, arith}
+use Rattle.std.proofs.Common.{◌≡◌, refl, sym, ap, ap₂, ◌∙◌, subst, inl, inr, ℕ, zero, suc, ◌+◌, ◌<◌, ◌≤◌, ◌==◌, ◌&&◌, max, Bool, true, false, cond, List, [], ◌∷◌, ◌++◌, get_or, length, Option, Some, None, zero-add, arith}
 use Rattle.std.proofs.lemmas.Bool.{eq-eqb}
 use Rattle.std.proofs.lemmas.List.{append-nil}
 use Rattle.b1_model.specs.declared.naming.Key.{Key}
@@ -10,13 +10,14 @@ use Rattle.b1_model.specs.declared.parts.Slot.{Slot}
 use Rattle.b1_model.specs.declared.entries.Entry.{Entry}
 use Rattle.b1_model.specs.MachineParts.{PeerPart, DriverPart, NodePart, HandleRecord, Slice, no_node, no_record, key_before, same_ref, ref_before, is_data, is_staged, is_odd, is_dying, is_destroyed, is_release_notice}
 use Rattle.b1_model.specs.MachinePool.{taken}
-use Rattle.b1_model.specs.MachineTables.{with_node, counted, without, is_stage, foreign, expected, changed_or_made, more_flight}
+use Rattle.b1_model.specs.MachineTables.{without, is_stage, foreign, expected, changed_or_made, more_flight}
 use Rattle.b1_model.specs.MachineSend.{staged, attach_answer, attached_by, attached, synced, find_stage, committed_by, committed, is_committed}
 use Rattle.b1_step.specs.Rights.{Has}
 use Rattle.b1_serial_bus.specs.Parts.{Part}
 use Rattle.b1_serial_bus.specs.Letters.{Letter, letter_len}
 use Rattle.b1_serial_bus.specs.Places.{after_taken}
-use Rattle.b1_serial_rest.specs.Standing.{own_of, with_line, lines_of, part_of}
+use Rattle.b1_serial_rest.specs.Standing.{with_line, lines_of, part_of}
+use Rattle.b1_serial_rest.proofs.Wires.{nodes_counted}
 use Rattle.b1_serial_send.proofs.Midway.{Answered, over, stage_at, attach_at, attach_all, stamp_at, sync_at, commit_at}
 use Rattle.b1_serial_send.proofs.Lists.{over_keeps}
 use Rattle.b1_serial_send.proofs.Parts.{at_keeps}
@@ -27,7 +28,7 @@ use Rattle.b1_serial_send.proofs.Copies.{place_key, copy, copies, copies_all, co
 use Rattle.b1_serial_send.proofs.Gone.{NoReleases, gone_all, gone_all_append, ReleasesRight, attaches_queue}
 use Rattle.b1_serial_send.proofs.Delivered.{gone_all_has, clock_after, with_three}
 
--- ---- lines and nodes
+-- ---- lines
 
 -- a line doesn't tell of slots on their way
 line_same : (r : Option ℕ) (h : HandleRecord) (rest : List HandleRecord) → with_line r (more_flight h) (lines_of rest) ≡ with_line r h (lines_of rest)
@@ -46,11 +47,6 @@ one_expected node (h ∷ rest) = by (same_ref h.node node) (ref_before node h.no
 pub lines_expected : (nodes : List NodeRef) (hs : List HandleRecord) → lines_of (expected nodes hs) ≡ lines_of hs
 lines_expected [] hs = refl
 lines_expected (n ∷ rest) hs = lines_expected rest (changed_or_made n more_flight hs) ∙ one_expected n hs
-
-pub nodes_counted : (serial dest : ℕ) (nodes : List NodePart) → map own_of (with_node serial (counted dest) nodes) ≡ map own_of nodes
-nodes_counted serial dest [] = refl
-nodes_counted zero dest (n ∷ rest) = refl
-nodes_counted (suc serial) dest (n ∷ rest) = ap (λ ns. own_of n ∷ ns) (nodes_counted serial dest rest)
 
 -- ---- all but clock, slices and queue
 

@@ -1,5 +1,5 @@
 -- A SEND that some destination accepted, from its last stage on to its end at rest.
-use Rattle.std.proofs.Common.{◌≡◌, refl, sym, ap, ap₂, ◌∙◌, subst, ℕ, ◌+◌, ◌<◌, ◌≤◌, ◌==◌, ◌&&◌, ◌%◌, max, Bool, true, false, cond, nat_lt, List, [], ◌∷◌, ◌++◌, map, fold, filter_map, length, set, zip, get_or, Option, Some, None, arith}
+use Rattle.std.proofs.Common.{◌≡◌, refl, sym, ap, ap₂, ◌∙◌, subst, ℕ, ◌+◌, ◌<◌, ◌≤◌, ◌==◌, ◌&&◌, ◌%◌, max, Bool, true, false, cond, nat_lt, List, [], ◌∷◌, ◌++◌, map, fold, filter_map, length, zip, get_or, Option, Some, None, arith}
 use Rattle.std.specs.Prelude.{slice_get}
 use Rattle.std.proofs.lemmas.Bool.{lt-ltb, eqb-true}
 use Rattle.std.proofs.lemmas.Option.{same_Some}
@@ -30,9 +30,10 @@ use Rattle.b1_serial_bus.specs.Delivery.{slot_for, delivered_from}
 use Rattle.b1_serial_rest.specs.Standing.{part_of, bus_of}
 use Rattle.b1_serial_rest.specs.Rest.{BoxesRight, AtRest}
 use Rattle.b1_serial_rest.proofs.Shown.{boxes_same}
+use Rattle.b1_serial_whole.proofs.Quiet.{driver_beside}
 use Rattle.b1_serial_send.proofs.Midway.{Answered, with_begin, over, stage_at, attach_at, attach_all, stamp_at, sync_at, commit_at, sending_driver, midway}
 use Rattle.b1_serial_send.proofs.Lists.{over_keeps, zip_len, over_nothing}
-use Rattle.b1_serial_send.proofs.Parts.{at_keeps, at_own, map_same, read_map}
+use Rattle.b1_serial_send.proofs.Parts.{at_keeps, at_own, read_map}
 use Rattle.b1_serial_send.proofs.Goes.{WillEnd, same_parts}
 use Rattle.b1_serial_send.proofs.Charges.{count_at}
 use Rattle.b1_serial_send.proofs.Staging.{turned_to}
@@ -46,7 +47,7 @@ use Rattle.b1_serial_send.proofs.Finals as final_part
 use Rattle.b1_serial_send.proofs.Ending.{bus_none, bus_same, at_none, delivered_none, ends_here}
 use Rattle.b1_serial_send.proofs.Boxes.{AreAlive, making_boxes, letter_boxes}
 use Rattle.b1_serial_send.proofs.Stamps.{is_any, any_is, collected_by, collected_once, stamps_same, fold_above, fold_has, count_has, accepted_has, map_has, zip_split}
-use Rattle.b1_serial_send.proofs.Facts.{placed, beside, begun_me, begun_quiet, begun_low, begun_odd, begun_releases, begun_bus, begun_there}
+use Rattle.b1_serial_send.proofs.Facts.{placed, begun_me, begun_quiet, begun_low, begun_odd, begun_releases, begun_bus, begun_there}
 
 -- the clock at the end of the destinations, where it is the stamp at their beginning
 stamp_stays : (q stamp : ℕ) (ds : Answered) → clock_after q stamp ds stamp ≡ stamp
@@ -195,7 +196,7 @@ module _ {o : Opening} {s : State} {bus : Bus} (opens : IsOpening o) (reached : 
             by : (r : Option PeerPart) → slice_get s.peers q ≡ r → (y : PeerPart) × (w : DriverPart) × (slice_get s.peers q ≡ Some y) × (slice_get s.drivers q ≡ Some w) × (z ≡ part_of (f y) w)
             by None none = absurd (cc (sym (at_none d.me q _ bus (ap (λ b. slice_get b q) rest.is_bus ∙ bus_none s q none)) ∙ is))
             by (Some y) there =
-                let w = beside opens reached rest q y there in
+                let w = driver_beside rest.numbered q y there in
                 (y, w.0, there, w.1, same_Some z (part_of (f y) w.0) (sym is ∙ begun_there opens reached rest d.me c q y w.0 there w.1))
 
         numbered : (q : ℕ) (z : Part) → slice_get with_nodes q ≡ Some z → z.me ≡ q
@@ -249,7 +250,7 @@ module _ {o : Opening} {s : State} {bus : Bus} (opens : IsOpening o) (reached : 
               there.2,
               ap (λ i. is_committed (over (commit_at d.me stamp slots) 0 (zip begun.to before) (over (sync_at stamp) 0 ds (stamp_at d.me stamp (attached_part y)))) d.me i) (sym (zip_len begun.to before to is_to))
                   ∙ found_is letter ds stamp slots (f y) (begun_quiet opens reached rest d.me c to.owner y there.2) (begun_low opens reached rest d.me c to.owner y there.2) (begun_releases opens reached rest d.me c to.owner y there.2) (begun_odd opens reached rest d.me c to.owner y there.2) even
-                  (λ some. high to.owner y (beside opens reached rest to.owner y there.2).0 there.2 (beside opens reached rest to.owner y there.2).1 (subst (λ k. 1 ≤ count_at k ds) (me_of to.owner y there.2) some))
+                  (λ some. high to.owner y (driver_beside rest.numbered to.owner y there.2).0 there.2 (driver_beside rest.numbered to.owner y there.2).1 (subst (λ k. 1 ≤ count_at k ds) (me_of to.owner y there.2) some))
                   (zip begun.to before) split.0 to (ap (zip begun.to) all ∙ split.1) (sym (me_of to.owner y there.2)),
               ap (λ zs. get_or (rows with_nodes begun.with begun.to zs) (length before) []) all ∙ rows_at with_nodes begun.with begun.to before more to is_to,
             )

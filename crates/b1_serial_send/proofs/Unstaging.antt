@@ -1,9 +1,9 @@
 -- A SEND that is refused at a place without CONTINUE takes back what it staged.
-use Rattle.std.proofs.Common.{◌≡◌, refl, sym, ap, ◌∙◌, subst, inl, inr, ℕ, ◌+◌, ◌≤◌, ◌==◌, ◌&&◌, ◌||◌, ◌-◌, nat_lt, Bool, true, false, cond, List, [], ◌∷◌, ◌++◌, find, length, set, zip, get_or, Option, Some, None, arith}
+use Rattle.std.proofs.Common.{◌≡◌, refl, sym, ap, ◌∙◌, subst, inl, inr, ℕ, ◌+◌, ◌≤◌, ◌==◌, ◌&&◌, ◌||◌, ◌-◌, nat_lt, Bool, true, false, cond, List, [], ◌∷◌, ◌++◌, find, length, zip, Option, Some, None, arith}
 use Rattle.std.specs.Prelude.{slice_get}
 use Rattle.std.proofs.lemmas.Bool.{eq-eqb, ne_eqb, lt-ltb, and_right}
 use Rattle.std.proofs.lemmas.List.{length-append, append-nil}
-use Rattle.std.proofs.lemmas.Option.{get_or_from_slice_get, slice_get-get_or}
+use Rattle.std.proofs.lemmas.Option.{get_or_from_slice_get}
 use Rattle.b1_model.specs.declared.naming.Key.{Key}
 use Rattle.b1_model.specs.declared.naming.NodeRef.{NodeRef}
 use Rattle.b1_model.specs.declared.naming.Opening.{Opening}
@@ -30,7 +30,7 @@ use Rattle.b1_serial_bus.specs.Letters.{Letter, Places, letter_len}
 use Rattle.b1_serial_rest.specs.Standing.{with_line, lines_of}
 use Rattle.b1_serial_send.proofs.Midway.{Answered, over, stage_at, unstage_at, sending_driver, midway}
 use Rattle.b1_serial_send.proofs.Lists.{over_keeps, over_one, over_none, over_nothing}
-use Rattle.b1_serial_send.proofs.Parts.{Placed, at_keeps, map_same}
+use Rattle.b1_serial_send.proofs.Parts.{Placed, at_keeps}
 use Rattle.b1_serial_send.proofs.Goes.{WillEnd, goes, same_parts}
 use Rattle.b1_serial_send.proofs.Accepted.{none_left, place_to, refused_from, accepted_at, is_place_at, places_back}
 use Rattle.b1_serial_send.proofs.Staging.{turned_to, turned_so}
