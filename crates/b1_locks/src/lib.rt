@@ -8,6 +8,7 @@
 mod answers;
 mod bus;
 mod commands;
+mod crossing;
 mod driver;
 mod event;
 mod finish;
@@ -18,4 +19,5 @@ mod send;
 mod short;
 
 pub use bus::{Board, Bus, Place};
+pub use crossing::cross;
 pub use driver::Driver;
