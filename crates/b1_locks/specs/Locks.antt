@@ -1,5 +1,5 @@
 -- What a driver's seat is between events and under a lock, and what one event makes of the driver.
-use Rattle.std.specs.Prelude.{◌≡◌, ℕ, ◌+◌, ◌<◌, ◌≤◌, [], ◌∷◌, length, Option, Some, None, Err}
+use Rattle.std.specs.Prelude.{◌≡◌, ℕ, ◌+◌, ◌<◌, ◌≤◌, [], ◌∷◌, length, Option, Some, Err}
 use Rattle.b1_model.specs.declared.naming.Opening.{Opening}
 use Rattle.b1_model.specs.declared.commands.Command.{Command}
 use Rattle.b1_model.specs.declared.answers.Reason.{Reason}
@@ -12,7 +12,6 @@ use Rattle.b1_peer.specs.Seen.{PeerSeen}
 use Rattle.b1_driver.specs.Parts.{Driver}
 use Rattle.b1_event.specs.Borne.{call_limit}
 use Rattle.b1_rule.specs.Known.{Holding}
-use Rattle.b1_rule.specs.Rule.{holding}
 use Rattle.b1_rule.specs.Plays.{Sat, naming, resting, Changes, Took}
 use Rattle.b1_commands.specs.Done.{Moves}
 use Rattle.b1_locks.specs.Faces.{StandsIn}
