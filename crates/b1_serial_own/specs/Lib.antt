@@ -1,0 +1,1 @@
+pub use Rattle.b1_serial_rest.specs.Rest

@@ -1,0 +1,2 @@
+//! Whole commands that lead from rest to rest.
+#![tactic(auto)]
