@@ -83,7 +83,7 @@ abroad_at x g (suc q) (y ∷ ys) same = ap (λ b. refers x y || b) (abroad_at x 
 
 -- ---- the owner's part
 
-stamp_at : (nodes : List NodePart) (serial : ℕ) → serial < length nodes → elim (slice_get (map own_of nodes) serial) [ None ↦ None | Some n ↦ n.destroyed ] ≡ stamp_of (get_or nodes serial no_node).state
+pub stamp_at : (nodes : List NodePart) (serial : ℕ) → serial < length nodes → elim (slice_get (map own_of nodes) serial) [ None ↦ None | Some n ↦ n.destroyed ] ≡ stamp_of (get_or nodes serial no_node).state
 stamp_at [] serial less = absurd (omega (arith, less))
 stamp_at (n ∷ rest) zero less = refl
 stamp_at (n ∷ rest) (suc serial) less = stamp_at rest serial (omega (arith, less))

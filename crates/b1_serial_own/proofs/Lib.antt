@@ -7,3 +7,7 @@ pub mod Abroad
 pub mod Dropped
 pub mod Given
 pub mod Release
+pub mod Marked
+pub mod Arrives
+pub mod Safe
+pub mod Receives
