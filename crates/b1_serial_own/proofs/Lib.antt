@@ -11,3 +11,7 @@ pub mod Marked
 pub mod Arrives
 pub mod Safe
 pub mod Receives
+pub mod Suffix
+pub mod OneStep
+pub mod Recv
+pub mod Runs

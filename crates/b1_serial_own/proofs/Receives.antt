@@ -1,5 +1,5 @@
 -- In a state at rest a peer of the machine receives as its peer of the serial bus does.
-use Rattle.std.proofs.Common.{◌≡◌, ◌≢◌, ◌⊎◌, refl, sym, ap, ◌∙◌, subst, inl, inr, ℕ, zero, suc, ◌+◌, ◌<◌, ◌≤◌, ◌==◌, Bool, true, false, cond, ◌&&◌, not, nat_lt, List, [], ◌∷◌, ◌++◌, length, drop, get_or, map, fold, zip, Option, Some, None, Ok, Err, is_some, is_none, option_map, unwrap_or, take_while, arith}
+use Rattle.std.proofs.Common.{◌≡◌, ◌≢◌, ◌⊎◌, refl, sym, ap, ◌∙◌, subst, inl, inr, ℕ, zero, suc, ◌+◌, ◌<◌, ◌≤◌, ◌==◌, Bool, true, false, cond, ◌&&◌, not, nat_lt, List, [], ◌∷◌, ◌++◌, length, drop, get_or, map, fold, zip, Option, Some, None, Ok, Err, is_some, is_none, option_map, unwrap_or, take_while, append-nil, arith}
 use Rattle.std.specs.Prelude.{slice_get}
 use Rattle.std.proofs.lemmas.Bool.{eqb-true, eq-eqb, ne_eqb, ltb-true, ltb-false, and_parts, not-true, false_from_ne_true}
 use Rattle.std.proofs.lemmas.List.Sums.{take_while-cons}
@@ -31,7 +31,7 @@ use Rattle.b1_step.proofs.Lookups.{rising_changed, other_changed}
 use Rattle.b1_step.proofs.Orders.{behind_has, same_ref_is}
 use Rattle.b1_inv.specs.Words.{IsPeer, IsDriver}
 use Rattle.b1_inv.specs.Numbers.{AreNumbered}
-use Rattle.b1_inv.specs.References.{times_in, carried_times}
+use Rattle.b1_inv.specs.References.{AreFilled, times_in, carried_times}
 use Rattle.b1_inv.specs.Sound.{IsSound}
 use Rattle.b1_inv_refs.proofs.Views.{Handles, or_none, held_same}
 use Rattle.b1_inv_refs.proofs.Numbered.{numbers_same}
@@ -167,6 +167,19 @@ module _ (q : ℕ) (d : DriverPart) (c : PeerPart) (up : Rising c.handles) (numb
   )
   taken_alike k (ReleaseNotice serial) can = (ap (λ n. (receipt.Released k.stamp n, part_of c d)) (own_number_is c d serial), none)
 
+-- a notice carries nothing
+carried_none : (e : Entry) → is_data e ≡ false → carried e ≡ []
+carried_none (Message origin user index serial offset len nodes slots handles payload) is = absurd (cc is)
+carried_none (OwnNotice serial index) is = refl
+carried_none (ForeignNotice node index) is = refl
+carried_none (ReleaseNotice serial) is = refl
+
+slots_none : (e : Entry) (r : NodeRef × Slot) → is_data e ≡ false → Has (zip (carried e) (slots_of e)) r → ⊥
+slots_none (Message origin user index serial offset len nodes slots handles payload) r is there = cc is
+slots_none (OwnNotice serial index) r is there = there
+slots_none (ForeignNotice node index) r is there = there
+slots_none (ReleaseNotice serial) r is there = there
+
 -- ---- a whole attempt
 
 module _ {o : Opening} {s : State} {bus : Bus} (p : ℕ) (x : PeerPart) (d : DriverPart) (sound : IsSound o s) (right : IsRight o s) (rest : AtRest o s bus) (is_x : IsPeer s p x) (is_d : IsDriver s p d) where
@@ -253,3 +266,63 @@ module _ {o : Opening} {s : State} {bus : Bus} (p : ℕ) (x : PeerPart) (d : Dri
       alive = alive;
       untaken = λ n in_it. ap (λ ns. (get_or ns n.serial no_node).taken) left.nodes ∙ own_untaken p x d sound right rest is_x is_d f n front_there in_it;
     }
+
+  filled_none : (e : Entry) → is_data e ≡ false → AreFilled p (carried e) (slots_of e)
+  filled_none (Message origin user index serial offset len nodes slots handles payload) is = absurd (cc is)
+  filled_none (OwnNotice serial index) is = tt
+  filled_none (ForeignNotice node index) is = tt
+  filled_none (ReleaseNotice serial) is = tt
+
+  -- the front arrives alike
+  front_can : (f : Key × Entry) (behind : List (Key × Entry)) → c.queue ≡ f ∷ behind → CanArrive p (carried f.1) (slots_of f.1) (record c { queue = behind })
+  front_can f behind is = by (is_data f.1) refl
+    where
+      by : (b : Bool) → is_data f.1 ≡ b → CanArrive p (carried f.1) (slots_of f.1) (record c { queue = behind })
+      by true data_is = can f behind is data_is
+      by false notice = record {
+        me = left.me ∙ (sound.numbered.peers p x is_x).me;
+        rising = left.rising;
+        numbered = c_numbered;
+        filled = filled_none f.1 notice;
+        flies = λ m apart. subst (λ l. times_in m l ≤ flight_in m c.handles) (sym (carried_none f.1 notice)) (omega arith);
+        alive = λ n in_it. absurd (slots_none f.1 (n, slot.Attached) notice in_it);
+        untaken = λ n in_it. absurd (slots_none f.1 (n, slot.Own) notice in_it);
+      }
+
+  -- what is received, of a queue of which the removals are gone
+  front_alike : (queue : List (Key × Entry)) (n : ℕ) → c.queue ≡ queue
+      → (received_from queue (part_of c d) ≡ called cmd.Recv (recv_answer (record { front = (front_taken c queue).0; removed = n })) (part_of (front_taken c queue).1 d)) × ((front_taken c queue).1.dead ≡ [])
+  front_alike [] n is = (refl, cleared_none)
+  front_alike (f ∷ behind) n is =
+      let there : Has x.queue f = front_there f behind is in
+      let unstaged = rest.quiet.committed p x f is_x there in
+      let k = taken_alike p d (record c { queue = behind }) left.rising c_numbered cleared_none f.0 f.1 (front_can f behind is) in (
+        ap receipt_called k.0 ∙ ap (λ b. called cmd.Recv (recv_answer (record { front = (front_by b c f behind).0; removed = n })) (part_of (front_by b c f behind).1 d)) (sym unstaged),
+        ap (λ b. (front_by b c f behind).1.dead) unstaged ∙ k.1,
+      )
+
+  -- the peer after an attempt, and nothing is to be given up
+  pub received_alike : received (part_of x d) ≡ called cmd.Recv (recv_answer (machine.received x)) (part_of (received_part x) d)
+  received_alike = ap (λ z. received_from z.box z) cleared_alike ∙ (front_alike c.queue (length (discards x)) refl).0
+
+  pub received_none : (received_part x).dead ≡ []
+  received_none = (front_alike c.queue (length (discards x)) refl).1
+
+  -- where nothing is left but what is for nobody
+  pub left_empty : (cleared (part_of x d)).box ≡ [] → c.queue ≡ []
+  left_empty none = sym (ap (λ z. z.box) cleared_alike) ∙ none
+
+  pub nothing_left : (cleared (part_of x d)).box ≡ [] → ((machine.received x).front ≡ Err Absent) × (received_part x ≡ c) × (length x.queue ≡ length (discards x))
+  nothing_left none =
+      let empty = left_empty none in (
+        ap (λ queue. (front_taken c queue).0) empty,
+        ap (λ queue. (front_taken c queue).1) empty,
+        ap length (queue_parts x ∙ ap (λ l. discards x ++ l) empty ∙ append-nil (discards x)),
+      )
+
+  -- where something is left, an answer is got
+  pub something_left : (f : Key × Entry) (behind : List (Key × Entry)) → c.queue ≡ f ∷ behind → (r : Receipt) × ((machine.received x).front ≡ Ok r)
+  something_left f behind is = (
+    (machine.taken_entry (record c { queue = behind }) f.0 f.1).0,
+    ap (λ queue. (front_taken c queue).0) is ∙ ap (λ b. (front_by b c f behind).0) (rest.quiet.committed p x f is_x (front_there f behind is)),
+  )
