@@ -123,8 +123,8 @@ module _ (q : ℕ) (n : NodeRef) (nodes : List NodeRef) (slots : List Slot) (d :
       let alive = can.alive n (inl refl) in
       let there = flying_there n a.part.handles (at_flight can) in (
         ap (λ y. record { part = y; numbers = a.numbers ++ number_for n (part_of a.part d) ∷ [] }) (reference_comes n a.part d can.rising can.numbered there alive)
-        ∙ ap (λ k. record { part = part_of (reference_by false a n).part d; numbers = a.numbers ++ k ∷ [] }) (reference_number n a.part d can.rising can.numbered there alive)
-        ∙ ap (λ b. shown (reference_by b a n)) (sym alive),
+            ∙ ap (λ k. record { part = part_of (reference_by false a n).part d; numbers = a.numbers ++ k ∷ [] }) (reference_number n a.part d can.rising can.numbered there alive)
+            ∙ ap (λ b. shown (reference_by b a n)) (sym alive),
         ap (λ b. (reference_by b a n).refs) alive,
       )
     where

@@ -15,3 +15,6 @@ pub mod Suffix
 pub mod OneStep
 pub mod Recv
 pub mod Runs
+pub mod Led
+pub mod Received
+pub mod Waited

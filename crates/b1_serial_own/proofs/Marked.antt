@@ -128,8 +128,8 @@ lines_marked node (h ∷ rest) up held = by (lines_marked node rest up.1 (λ g k
     own same None = sym (marked_none node (lines_of rest) (none_there same))
     own same (Some k) =
         sym (put_marked node (line_under k h) (lines_of rest)
-            ∙ ap (λ l. put_line l (map (made_dead node) (lines_of rest))) (line_marked k true same)
-            ∙ ap (put_line (line_under k (tables.made_dead h))) (marked_none node (lines_of rest) (none_there same)))
+        ∙ ap (λ l. put_line l (map (made_dead node) (lines_of rest))) (line_marked k true same)
+        ∙ ap (put_line (line_under k (tables.made_dead h))) (marked_none node (lines_of rest) (none_there same)))
 
     gone : same_ref h.node node ≡ true → is_needed (tables.made_dead h) ≡ false → (r : Option ℕ) → h.number ≡ r → lines_of rest ≡ map (made_dead node) (with_line r h (lines_of rest))
     gone same unneeded None is = sym (marked_none node (lines_of rest) (none_there same))

@@ -152,17 +152,17 @@ module _ (q : ℕ) (d : DriverPart) (c : PeerPart) (up : Rising c.handles) (numb
       let start : machine.Arriving = record { part = record c { slices = published offset c.slices }; numbers = []; refs = [] } in
       let same = slots_alike q d nodes slots start (record { me = can.me; rising = can.rising; numbered = can.numbered; filled = can.filled; flies = can.flies; alive = can.alive; untaken = can.untaken }) in (
         ap (λ n. (receipt.Message k n offset (arrived nodes slots (part_of start.part d)).numbers payload, (arrived nodes slots (part_of start.part d)).part)) (own_number_is c d serial)
-        ∙ ap (λ a. (receipt.Message k (node_at c serial).number offset a.numbers payload, a.part)) same.0,
+            ∙ ap (λ a. (receipt.Message k (node_at c serial).number offset a.numbers payload, a.part)) same.0,
         ap (λ refs. machine.with_item refs (fold slot_arrives start (zip nodes slots)).part.dead) same.1 ∙ (slots_rest nodes slots start).dead ∙ none,
       )
   taken_alike k (OwnNotice serial index) can = (
     ap (λ n. (receipt.Destroyed k n, part_of c d)) (own_number_is c d serial)
-    ∙ ap (λ nodes. (receipt.Destroyed k (node_at c serial).number, record (part_of c d) { nodes = nodes })) (sym (map_set own_of c.nodes serial (notice_taken (get_or c.nodes serial no_node)) no_node refl)),
+        ∙ ap (λ nodes. (receipt.Destroyed k (node_at c serial).number, record (part_of c d) { nodes = nodes })) (sym (map_set own_of c.nodes serial (notice_taken (get_or c.nodes serial no_node)) no_node refl)),
     none,
   )
   taken_alike k (ForeignNotice node index) can = (
     ap (λ n. (receipt.Destroyed k n, record (part_of c d) { lines = map (made_dead node) (lines_of c.handles) })) (notice_number node)
-    ∙ ap (λ ls. (receipt.Destroyed k (unwrap_or (record_or_none node c.handles).number invalid), record (part_of c d) { lines = ls })) (sym (lines_marked node c.handles up (λ h n there is. (numbered.held h n there is).0))),
+        ∙ ap (λ ls. (receipt.Destroyed k (unwrap_or (record_or_none node c.handles).number invalid), record (part_of c d) { lines = ls })) (sym (lines_marked node c.handles up (λ h n there is. (numbered.held h n there is).0))),
     none,
   )
   taken_alike k (ReleaseNotice serial) can = (ap (λ n. (receipt.Released k.stamp n, part_of c d)) (own_number_is c d serial), none)

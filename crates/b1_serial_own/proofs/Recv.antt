@@ -172,6 +172,25 @@ module _ (o : Opening) (s : State) (bus : Bus) (p : ℕ) (y : Part) (command : C
     pub receive_rests : AtRest o t (at_peer p received bus)
     receive_rests = whole_rests whole bus (at_peer p received bus) opens reached rest shows boxes
 
+  -- ---- an attempt that finds something
+
+  module _ (call_got : (r : Receipt) → call_of command (ans.Got r) ≡ record { command = cmd.Recv; answer = ans.Got r } ∷ []) (some : is_empty (cleared y).box ≡ false) where
+    got_some : (queue : List (Key × Entry)) → (machine.cleared x).queue ≡ queue → (r : Receipt) × (got ≡ ans.Got r)
+    got_some [] none =
+        let empty : (cleared y).box ≡ [] = ap (λ z. (cleared z).box) here.4 ∙ ap (λ z. z.box) (cleared_alike p x d sound right rest here.2 here.3) ∙ none in
+        absurd (cc (sym some ∙ ap is_empty empty))
+    got_some (f ∷ behind) is =
+        let k = something_left p x d sound right rest here.2 here.3 f behind is in
+        (k.0, ap (λ r. elim r [ Ok receipt ↦ ans.Got receipt | Err front ↦ refused_at (reason.Again front) None ]) k.1)
+
+    call_some : call_of command got ≡ record { command = cmd.Recv; answer = got } ∷ []
+    call_some =
+        let k = got_some (machine.cleared x).queue refl in
+        ap (call_of command) k.1 ∙ call_got k.0 ∙ ap (λ g. record { command = cmd.Recv; answer = g } ∷ []) (sym k.1)
+
+    pub some_rests : AtRest o t (at_peer p received bus)
+    some_rests = receive_rests call_some
+
   -- ---- an attempt that waits
 
   module _ (none : (cleared y).box ≡ []) (waiting : is_waiting command (refused_at (reason.Again Absent) None) ≡ true) where

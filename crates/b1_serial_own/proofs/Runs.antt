@@ -138,8 +138,8 @@ module _ {o : Opening} {s : State} (sound : IsSound o s) (p : ℕ) (d : DriverPa
         let x = next_there in (
           with_parts s p (peer_of d.me (next_action d)) (effect o memory d None x.0),
           ap (stepped_by o memory p None s) is_d
-          ∙ ap (λ r. stepped_to o memory p None s d (elim (begun_by d r None) [ None ↦ None | Some e ↦ Some (aimed e) ])) is_open
-          ∙ ap (stepped_at o memory p None s d (peer_of d.me (next_action d))) x.1,
+              ∙ ap (λ r. stepped_to o memory p None s d (elim (begun_by d r None) [ None ↦ None | Some e ↦ Some (aimed e) ])) is_open
+              ∙ ap (stepped_at o memory p None s d (peer_of d.me (next_action d))) x.1,
         )
 
   -- a command begins by a step
@@ -151,8 +151,8 @@ module _ {o : Opening} {s : State} (sound : IsSound o s) (p : ℕ) (d : DriverPa
       let there : slice_get s.peers (peer_of d.me (next_action e)) ≡ Some x.0 = ap (λ a. slice_get s.peers (peer_of d.me a)) next ∙ x.1 in (
         with_parts s p (peer_of d.me (next_action e)) (effect o memory d (Some command) x.0),
         ap (stepped_by o memory p (Some command) s) is_d
-        ∙ ap (λ r. stepped_to o memory p (Some command) s d (elim (begun_by d r (Some command)) [ None ↦ None | Some f ↦ Some (aimed f) ])) idle
-        ∙ ap (stepped_at o memory p (Some command) s d (peer_of d.me (next_action e))) there,
+            ∙ ap (λ r. stepped_to o memory p (Some command) s d (elim (begun_by d r (Some command)) [ None ↦ None | Some f ↦ Some (aimed f) ])) idle
+            ∙ ap (stepped_at o memory p (Some command) s d (peer_of d.me (next_action e))) there,
       )
 
 -- ---- a schedule's steps of one driver
@@ -223,9 +223,9 @@ module _ (o : Opening) (m : Shortage) (p : ℕ) where
         let y = own_there (reached_sound o t opens then) p step.new_driver (own_driver step) in
         by_open t step.new_driver step.new_driver.doing refl (own_driver step)
         (λ opened. rest t step.new_driver y.0 then (own_driver step) y.1 (
-            let falls = work_falls sound.numbered sound.sends sound.notices step x y.0 is_x y.1 opened in
-            let same_work = ap (λ e. work e x) driver in
-            omega (arith, falls, same_work, less)))
+        let falls = work_falls sound.numbered sound.sends sound.notices step x y.0 is_x y.1 opened in
+        let same_work = ap (λ e. work e x) driver in
+        omega (arith, falls, same_work, less)))
 
     by_state : (r : Option Doing) → d.doing ≡ r → Finishes s
     by_state None idle = finished s d is_d idle
