@@ -18,3 +18,5 @@ pub mod Runs
 pub mod Led
 pub mod Received
 pub mod Waited
+
+pub mod Amid
