@@ -20,3 +20,4 @@ pub mod Received
 pub mod Waited
 
 pub mod Amid
+pub mod Visits
