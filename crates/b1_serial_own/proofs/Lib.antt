@@ -21,3 +21,5 @@ pub mod Waited
 
 pub mod Amid
 pub mod Visits
+pub mod Notes
+pub mod Told
