@@ -23,3 +23,4 @@ pub mod Amid
 pub mod Visits
 pub mod Notes
 pub mod Told
+pub mod Doomed
