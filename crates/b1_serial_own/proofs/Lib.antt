@@ -24,3 +24,4 @@ pub mod Visits
 pub mod Notes
 pub mod Told
 pub mod Doomed
+pub mod Holders
