@@ -25,3 +25,4 @@ pub mod Notes
 pub mod Told
 pub mod Doomed
 pub mod Holders
+pub mod Destroys

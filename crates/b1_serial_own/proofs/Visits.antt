@@ -118,6 +118,14 @@ changed_more done v f g new q z = elim (cases_eq q v) [ inl same ↦ here same |
         or_false true = refl
         or_false false = refl
 
+-- ---- what a destruction makes of each peer
+
+-- of the owner p of doomed nodes, and of the peers of a list, with a stamp that is above what was collected
+abbrev pub destroys : ℕ → List ℕ → ℕ → ℕ → List ℕ → Become
+destroys p doomed collected stamp list q z =
+    cond (q == p) (notices_committed (doom_stamped (doomed_part z doomed) collected doomed) p stamp)
+    (cond (is_among q list) (notices_committed (synced (visited z p doomed) stamp) p stamp) z)
+
 -- ---- a destruction
 
 module _ (o : Opening) (s : State) (p : ℕ) (x : PeerPart) (d : DriverPart) (command : Command) (t : State) (is_x : IsPeer s p x) (is_d : IsDriver s p d)
@@ -389,6 +397,26 @@ module _ (o : Opening) (s : State) (p : ℕ) (x : PeerPart) (d : DriverPart) (co
         same_as None = refl
         same_as (Some z) = refl
 
+    -- stage by stage, by whether a peer is the owner and whether it is of the list
+    abbrev staged : Bool → Bool → PeerPart → PeerPart
+    staged own among z =
+        let a = cond own (doomed_part z doomed) z in
+        let b = cond among (visited a p doomed) a in
+        let c = cond own (doom_stamped b (collects list) doomed) b in
+        let e = cond among (synced c stamp) c in
+        let f = cond own (notices_committed e p stamp) e in
+        cond among (notices_committed f p stamp) f
+
+    commits_are : (q : ℕ) (z : PeerPart) → commits list q z ≡ destroys p doomed (collects list) stamp list q z
+    commits_are q z = by (q == p) refl (is_among q list) refl
+      where
+        by : (own : Bool) → (q == p) ≡ own → (among : Bool) → is_among q list ≡ among
+            → staged own among z ≡ cond own (notices_committed (doom_stamped (doomed_part z doomed) (collects list) doomed) p stamp) (cond among (notices_committed (synced (visited z p doomed) stamp) p stamp) z)
+        by true own true among = absurd (apart_list (among_has p list (ap (λ n. is_among n list) (sym (eqb-true q p own)) ∙ among)))
+        by true own false among = refl
+        by false own true among = refl
+        by false own false among = refl
+
     -- behind all commits
-    pub destruction_done : ComesBy last (commits list)
-    destruction_done = all_commits list [] refl (own_committed (all_syncs list [] refl (stamped (all_visits list [] refl begun))))
+    pub destruction_done : ComesBy last (destroys p doomed (collects list) stamp list)
+    destruction_done = recast_by last (commits list) (destroys p doomed (collects list) stamp list) (λ q z is_z. commits_are q z) (all_commits list [] refl (own_committed (all_syncs list [] refl (stamped (all_visits list [] refl begun)))))
