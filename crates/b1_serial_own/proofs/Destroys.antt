@@ -32,7 +32,7 @@ use Rattle.b1_serial_own.proofs.Shows.{read_at, read_beside, part_there}
 use Rattle.b1_serial_own.proofs.Visits.{destroys, not_among, among_has}
 use Rattle.b1_serial_own.proofs.Notes.{Queue, key_at, AllBefore, notes, notes_same}
 use Rattle.b1_serial_own.proofs.Told.{foreign_note, told_shown, notices_shown, notices_none}
-use Rattle.b1_serial_own.proofs.Doomed.{owner_then, owner_shown, owner_doomed}
+use Rattle.b1_serial_own.proofs.Doomed.{owner_after, owner_shown, owner_doomed}
 use Rattle.b1_serial_own.proofs.Holders.{list, none_own, needs_all, list_others, list_has, list_refers, clock_of, greatest_has, stamp_alike}
 
 -- ---- lists that agree at every index
@@ -93,6 +93,17 @@ module _ {o : Opening} {s : State} {bus : Bus} (sound : IsSound o s) (right : Is
         by Live is = refl
         by Dying is = refl
         by (Destroyed at) is = absurd (cc is)
+
+    -- the owner on the serial bus
+    pub own_doomed : with_all_doomed stamp 0 doomed (part_of x d) ≡ owner_after stamp x d doomed
+    own_doomed = owner_doomed p x d doomed collected me (odd_clock p x is_x) (λ f there. rest.quiet.committed p x f is_x there) alive (λ j. queue_before p x is_x (key_at (x.clock + 1) x.me j) (omega arith)) (λ j. queue_before p x is_x (key_at stamp x.me j) (omega arith))
+
+    -- a peer that is told has a lesser clock than the stamp
+    pub clock_below : (q : ℕ) (z : PeerPart) → IsPeer s q z → Has told_list q → z.clock < stamp
+    clock_below q z is_z there =
+        let least = greatest_has sound right rest p x d is_x is_d doomed made live (λ r. clock_at (slice_get s.peers r)) 0 told_list q there in
+        let own : clock_at (slice_get s.peers q) ≡ z.clock = ap clock_at is_z in
+        omega (arith, least, own)
 
     -- the owner
     own_alike : part_of (notices_committed (doom_stamped (doomed_part x doomed) collected doomed) p stamp) d ≡ with_all_doomed stamp 0 doomed (with_notices stamp p 0 doomed (part_of x d))

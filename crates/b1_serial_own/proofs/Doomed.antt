@@ -120,25 +120,25 @@ committed_queue stamp origin queue = put_all (map (with_stamp stamp) (filter (is
 
 -- ---- the owner
 
+-- what it is on the bus behind a destruction with a stamp
+abbrev pub owner_after : ℕ → PeerPart → DriverPart → List ℕ → Part
+owner_after stamp x d doomed = record (part_of x d) {
+  clock = stamp;
+  nodes = all_destroyed stamp doomed (map own_of x.nodes);
+  box = unreleased doomed x.queue ++ notes own_note all_so stamp x.me 0 doomed;
+}
+
 module _ (p : ℕ) (x : PeerPart) (d : DriverPart) (doomed : List ℕ) (collected : ℕ) (me : x.me ≡ p) (odd : is_odd (x.clock + 1) ≡ true)
     (even : (f : Key × Entry) → Has x.queue f → is_staged f ≡ false) (alive : (n : ℕ) → Has doomed n → stamp_of (get_or x.nodes n no_node).state ≡ None)
     (before : (j : ℕ) → AllBefore x.queue (key_at (x.clock + 1) x.me j)) (below : (j : ℕ) → AllBefore x.queue (key_at (max x.clock collected + 2) x.me j)) where
   abbrev pub stamp : ℕ
   stamp = max x.clock collected + 2
 
-  -- what it is then on the bus
-  abbrev pub owner_then : Part
-  owner_then = record (part_of x d) {
-    clock = stamp;
-    nodes = all_destroyed stamp doomed (map own_of x.nodes);
-    box = unreleased doomed x.queue ++ notes own_note all_so stamp x.me 0 doomed;
-  }
-
   staged_queue : with_own_notices x 0 doomed x.queue ≡ unreleased doomed x.queue ++ notes own_note all_so (x.clock + 1) x.me 0 doomed
   staged_queue = ap (with_own_notices x 0 doomed) (sym (append-nil x.queue)) ∙ own_staged x doomed 0 x.queue [] (λ f n there. absurd there) (subst (λ l. AllBefore l (key_at (x.clock + 1) x.me 0)) (sym (append-nil x.queue)) (before 0))
 
   -- on the machine
-  pub owner_shown : part_of (notices_committed (doom_stamped (doomed_part x doomed) collected doomed) p stamp) d ≡ owner_then
+  pub owner_shown : part_of (notices_committed (doom_stamped (doomed_part x doomed) collected doomed) p stamp) d ≡ owner_after stamp x d doomed
   owner_shown =
       ap (λ nodes. record (part_of x d) { clock = stamp; nodes = nodes; box = committed_queue stamp p (with_own_notices x 0 doomed x.queue) }) (nodes_destroyed stamp doomed (with_nodes doomed (in_state Dying) x.nodes) ∙ ap (all_destroyed stamp doomed) (nodes_dying doomed x.nodes alive))
       ∙ ap (λ l. record (part_of x d) { clock = stamp; nodes = all_destroyed stamp doomed (map own_of x.nodes); box = l })
@@ -147,5 +147,5 @@ module _ (p : ℕ) (x : PeerPart) (d : DriverPart) (doomed : List ℕ) (collecte
           ∙ lists.notes_committed own_note x.me all_so (x.clock + 1) stamp doomed (unreleased doomed x.queue) odd (λ n at. refl) (λ f there. even f (unreleased_has doomed x.queue f there)) (λ j f there. below j f (unreleased_has doomed x.queue f there)))
 
   -- on the serial bus
-  pub owner_doomed : with_all_doomed stamp 0 doomed (part_of x d) ≡ owner_then
+  pub owner_doomed : with_all_doomed stamp 0 doomed (part_of x d) ≡ owner_after stamp x d doomed
   owner_doomed = all_doomed_shown stamp doomed 0 (part_of x d) x.queue [] (sym (append-nil x.queue)) (λ f n there. absurd there) (subst (λ l. AllBefore l (key_at stamp x.me 0)) (sym (append-nil x.queue)) (below 0))

@@ -26,3 +26,4 @@ pub mod Told
 pub mod Doomed
 pub mod Holders
 pub mod Destroys
+pub mod DestroyBoxes
