@@ -288,7 +288,7 @@ module _ {o : Opening} {s : State} {bus : Bus} (sound : IsSound o s) (right : Is
       by (inr none) =
           noticed_still (part_of x d) owner owner_behind f.0 (record { owner = x.me; serial = serial })
           (rest.boxes.sent p (part_of x d) f serial here old to
-              (ap (λ r. is_some (elim r [ None ↦ None | Some k ↦ k.destroyed ])) (sym (all_other stamped serial doomed (map own_of x.nodes) none)) ∙ ap (λ v. is_some (destroyed_at v serial)) (sym is) ∙ dead))
+          (ap (λ r. is_some (elim r [ None ↦ None | Some k ↦ k.destroyed ])) (sym (all_other stamped serial doomed (map own_of x.nodes) none)) ∙ ap (λ v. is_some (destroyed_at v serial)) (sym is) ∙ dead))
   old_sent q z f serial (another other v e is_v is_e is) there to dead =
       let behind = told_behind q v e is_v is_e in
       let old = behind.comes f (subst (λ w. Has w.box f) is there) (sent_data f.1 serial to) in

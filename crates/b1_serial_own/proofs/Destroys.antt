@@ -123,7 +123,7 @@ module _ {o : Opening} {s : State} {bus : Bus} (sound : IsSound o s) (right : Is
           (λ j. queue_before q z is_z (key_at (z.clock + 1) p j) (omega arith)) (λ j. queue_before q z is_z (key_at stamp p j) (omega (arith, clock)))
           ∙ ap (λ c. record (part_of z e) { clock = c; box = z.queue ++ notes (foreign_note p) (λ n. needs_notice z (record { owner = p; serial = n })) stamp p 0 doomed }) (omega (arith, clock))
           ∙ ap (λ l. record (part_of z e) { clock = stamp; box = z.queue ++ l }) (notes_same (foreign_note p) p (λ n. needs_notice z (record { owner = p; serial = n })) (λ n. refers (node_of p n) (part_of z e)) stamp 0 doomed
-              (λ n in_it. needs_all sound right rest p x d is_x is_d doomed made live q z e is_z is_e (list_others sound right rest p x d is_x is_d doomed made live q there).0 n in_it))
+          (λ n in_it. needs_all sound right rest p x d is_x is_d doomed made live q z e is_z is_e (list_others sound right rest p x d is_x is_d doomed made live q there).0 n in_it))
           ∙ ap (λ b. record (part_of z e) { clock = cond b stamp z.clock; box = z.queue ++ notes (foreign_note p) (λ n. refers (node_of p n) (part_of z e)) stamp p 0 doomed }) (sym (list_refers sound right rest p x d is_x is_d doomed made live q z e there is_z is_e))
           ∙ sym (notices_shown p stamp doomed 0 (part_of z e) (queue_before q z is_z (key_at stamp p 0) (omega (arith, clock))))
 
@@ -140,10 +140,7 @@ module _ {o : Opening} {s : State} {bus : Bus} (sound : IsSound o s) (right : Is
 
     -- ---- the bus
 
-    module _ (y : Part) (is_y : y ≡ part_of x d) (peers : List PeerPart) (become : (q : ℕ) → slice_get peers q ≡ option_map (destroys p doomed collected stamp told_list q) (slice_get s.peers q)) where
-      me_y : y.me ≡ p
-      me_y = ap (λ v. v.me) is_y ∙ me
-
+    module _ (peers : List PeerPart) (become : (q : ℕ) → slice_get peers q ≡ option_map (destroys p doomed collected stamp told_list q) (slice_get s.peers q)) where
       destroyed_read : (q : ℕ) (z : PeerPart) (e : DriverPart) → IsPeer s q z → IsDriver s q e → slice_get (map (with_notices stamp p 0 doomed) bus) q ≡ Some (with_notices stamp p 0 doomed (part_of z e))
       destroyed_read q z e is_z is_e =
           slice_get-map (with_notices stamp p 0 doomed) bus q ∙ ap (option_map (with_notices stamp p 0 doomed)) (ap (λ b. slice_get b q) rest.is_bus ∙ part_there s.peers s.drivers q z e is_z is_e)
@@ -174,9 +171,9 @@ module _ {o : Opening} {s : State} {bus : Bus} (sound : IsSound o s) (right : Is
       at_none q none =
           parts_read peers s.drivers q ∙ ap (λ r. of_both r (slice_get s.drivers q)) (become q ∙ ap (option_map (destroys p doomed collected stamp told_list q)) none)
           ∙ sym (read_beside p q (with_all_doomed stamp 0 doomed) (map (with_notices stamp p 0 doomed) bus) (λ same. cc (sym is_x ∙ ap (slice_get s.peers) same ∙ none))
-              ∙ slice_get-map (with_notices stamp p 0 doomed) bus q
-              ∙ ap (λ b. option_map (with_notices stamp p 0 doomed) (slice_get b q)) rest.is_bus
-              ∙ ap (option_map (with_notices stamp p 0 doomed)) (parts_read s.peers s.drivers q ∙ ap (λ r. of_both r (slice_get s.drivers q)) none))
+          ∙ slice_get-map (with_notices stamp p 0 doomed) bus q
+          ∙ ap (λ b. option_map (with_notices stamp p 0 doomed) (slice_get b q)) rest.is_bus
+          ∙ ap (option_map (with_notices stamp p 0 doomed)) (parts_read s.peers s.drivers q ∙ ap (λ r. of_both r (slice_get s.drivers q)) none))
 
       at_each : (q : ℕ) → slice_get (parts_of peers s.drivers) q ≡ slice_get bus_then q
       at_each q = elim (cases_eq q p) [ inl same ↦ ap (slice_get (parts_of peers s.drivers)) same ∙ at_owner ∙ ap (slice_get bus_then) (sym same) | inr other ↦ by (slice_get s.peers q) refl other ]
@@ -186,8 +183,11 @@ module _ {o : Opening} {s : State} {bus : Bus} (sound : IsSound o s) (right : Is
           by (Some z) is_z other = let e = driver_beside sound.numbered q z is_z in at_other q z e.0 other is_z e.1
 
       -- with the drivers as they were
-      pub destroyed_shown : parts_of peers s.drivers ≡ destroyed (doom_stamp y doomed bus) y doomed bus
-      destroyed_shown =
-          same_all (parts_of peers s.drivers) bus_then at_each
-          ∙ ap (λ q. at_peer q (with_all_doomed stamp 0 doomed) (map (with_notices stamp q 0 doomed) bus)) (sym me_y)
-          ∙ ap (λ n. destroyed n y doomed bus) (stamp_alike sound right rest p x d is_x is_d doomed made live y is_y)
+      pub then_shown : parts_of peers s.drivers ≡ bus_then
+      then_shown = same_all (parts_of peers s.drivers) bus_then at_each
+
+    -- the serial bus behind it
+    pub then_is : (y : Part) → y ≡ part_of x d → at_peer p (with_all_doomed stamp 0 doomed) (map (with_notices stamp p 0 doomed) bus) ≡ destroyed (doom_stamp y doomed bus) y doomed bus
+    then_is y is_y =
+        ap (λ q. at_peer q (with_all_doomed stamp 0 doomed) (map (with_notices stamp q 0 doomed) bus)) (sym (ap (λ v. v.me) is_y ∙ me))
+        ∙ ap (λ n. destroyed n y doomed bus) (stamp_alike sound right rest p x d is_x is_d doomed made live y is_y)

@@ -143,8 +143,8 @@ module _ (p : ℕ) (x : PeerPart) (d : DriverPart) (doomed : List ℕ) (collecte
       ap (λ nodes. record (part_of x d) { clock = stamp; nodes = nodes; box = committed_queue stamp p (with_own_notices x 0 doomed x.queue) }) (nodes_destroyed stamp doomed (with_nodes doomed (in_state Dying) x.nodes) ∙ ap (all_destroyed stamp doomed) (nodes_dying doomed x.nodes alive))
       ∙ ap (λ l. record (part_of x d) { clock = stamp; nodes = all_destroyed stamp doomed (map own_of x.nodes); box = l })
       (ap (committed_queue stamp p) staged_queue
-          ∙ ap (λ q. committed_queue stamp q (unreleased doomed x.queue ++ notes own_note all_so (x.clock + 1) x.me 0 doomed)) (sym me)
-          ∙ lists.notes_committed own_note x.me all_so (x.clock + 1) stamp doomed (unreleased doomed x.queue) odd (λ n at. refl) (λ f there. even f (unreleased_has doomed x.queue f there)) (λ j f there. below j f (unreleased_has doomed x.queue f there)))
+      ∙ ap (λ q. committed_queue stamp q (unreleased doomed x.queue ++ notes own_note all_so (x.clock + 1) x.me 0 doomed)) (sym me)
+      ∙ lists.notes_committed own_note x.me all_so (x.clock + 1) stamp doomed (unreleased doomed x.queue) odd (λ n at. refl) (λ f there. even f (unreleased_has doomed x.queue f there)) (λ j f there. below j f (unreleased_has doomed x.queue f there)))
 
   -- on the serial bus
   pub owner_doomed : with_all_doomed stamp 0 doomed (part_of x d) ≡ owner_after stamp x d doomed

@@ -220,8 +220,8 @@ module _ {o : Opening} {s : State} {bus : Bus} (sound : IsSound o s) (right : Is
   pub counts_refers : (q : ℕ) (z : PeerPart) (e : DriverPart) → IsPeer s q z → IsDriver s q e → counts_one q ≡ refers_to_doomed p doomed (part_of z e)
   counts_refers q z e is_z is_e =
       any_same (λ n. nat_lt 0 (count_of (node_at x n) q)) (λ n. refers (node_of p n) (part_of z e)) doomed (λ n there.
-          ap (λ r. nat_lt 0 (elim r [ None ↦ 0 | Some v ↦ count_of (node_at v n) q ])) (sym is_x)
-          ∙ sym (refers_counted sound rest.quiet (node_of p n) q (part_of z e) (part_there s.peers s.drivers q z e is_z is_e)))
+      ap (λ r. nat_lt 0 (elim r [ None ↦ 0 | Some v ↦ count_of (node_at v n) q ])) (sym is_x)
+      ∙ sym (refers_counted sound rest.quiet (node_of p n) q (part_of z e) (part_there s.peers s.drivers q z e is_z is_e)))
 
   -- the owner isn't among them
   pub none_own : refers_to_doomed p doomed (part_of x d) ≡ false
@@ -300,9 +300,9 @@ module _ {o : Opening} {s : State} {bus : Bus} (sound : IsSound o s) (right : Is
       let two : clock from ≡ v.clock = ap clock (sym at) ∙ here.1 in
       ap (λ b. fold (λ c q. max c (clock q)) a (cond b (from ∷ filter test (range_with_len (from + 1) (length xs))) (filter test (range_with_len (from + 1) (length xs))))) one
       ∙ by (tells (part_of v w)) two (λ a. greatest test clock tells a xs ds (from + 1) (omega (arith, many)) (λ i z e is_z is_e.
-          let k = same (suc i) z e is_z is_e in
-          let moved : from + 1 + i ≡ from + suc i = omega arith in
-          (ap test moved ∙ k.0, ap clock moved ∙ k.1)))
+      let k = same (suc i) z e is_z is_e in
+      let moved : from + 1 + i ≡ from + suc i = omega arith in
+      (ap test moved ∙ k.0, ap clock moved ∙ k.1)))
     where
       by : (b : Bool) → clock from ≡ v.clock
           → ((c : ℕ) → fold (λ c q. max c (clock q)) c (filter test (range_with_len (from + 1) (length xs))) ≡ fold max c (map (λ y. y.clock) (filter tells (parts_of xs ds))))
@@ -331,10 +331,10 @@ module _ {o : Opening} {s : State} {bus : Bus} (sound : IsSound o s) (right : Is
   pub stamp_alike : (y : Part) → y ≡ part_of x d → max x.clock (fold (λ c q. max c (clock_of q)) 0 list) + 2 ≡ doom_stamp y doomed bus
   stamp_alike y is =
       ap (λ n. n + 2) (
-          sym (from_other clock_of x.clock 0 list) ∙ ap (λ n. fold (λ c q. max c (clock_of q)) n list) (omega arith)
-          ∙ ap (λ n. fold (λ c q. max c (clock_of q)) x.clock (filter counts_one (range_with_len 0 n))) peers_are
-          ∙ greatest counts_one clock_of (refers_to_doomed p doomed) x.clock s.peers s.drivers 0 (sound.numbered.as_many_peers ∙ sym sound.numbered.as_many_drivers)
-          (λ i z e is_z is_e. let at : 0 + i ≡ i = omega arith in (ap counts_one at ∙ counts_refers i z e is_z is_e, ap clock_of at ∙ ap (λ r. elim r [ None ↦ 0 | Some v ↦ v.clock ]) is_z))
-          ∙ ap (λ b. fold max x.clock (map (λ v. v.clock) (filter (refers_to_doomed p doomed) b))) (sym rest.is_bus)
-          ∙ ap (λ q. fold max x.clock (map (λ v. v.clock) (filter (refers_to_doomed q doomed) bus))) (sym me)
-          ∙ ap (λ v. fold max v.clock (map (λ v. v.clock) (filter (refers_to_doomed v.me doomed) bus))) (sym is))
+      sym (from_other clock_of x.clock 0 list) ∙ ap (λ n. fold (λ c q. max c (clock_of q)) n list) (omega arith)
+      ∙ ap (λ n. fold (λ c q. max c (clock_of q)) x.clock (filter counts_one (range_with_len 0 n))) peers_are
+      ∙ greatest counts_one clock_of (refers_to_doomed p doomed) x.clock s.peers s.drivers 0 (sound.numbered.as_many_peers ∙ sym sound.numbered.as_many_drivers)
+      (λ i z e is_z is_e. let at : 0 + i ≡ i = omega arith in (ap counts_one at ∙ counts_refers i z e is_z is_e, ap clock_of at ∙ ap (λ r. elim r [ None ↦ 0 | Some v ↦ v.clock ]) is_z))
+      ∙ ap (λ b. fold max x.clock (map (λ v. v.clock) (filter (refers_to_doomed p doomed) b))) (sym rest.is_bus)
+      ∙ ap (λ q. fold max x.clock (map (λ v. v.clock) (filter (refers_to_doomed q doomed) bus))) (sym me)
+      ∙ ap (λ v. fold max v.clock (map (λ v. v.clock) (filter (refers_to_doomed v.me doomed) bus))) (sym is))

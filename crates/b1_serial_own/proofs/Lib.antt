@@ -18,7 +18,6 @@ pub mod Runs
 pub mod Led
 pub mod Received
 pub mod Waited
-
 pub mod Amid
 pub mod Visits
 pub mod Notes
@@ -27,3 +26,5 @@ pub mod Doomed
 pub mod Holders
 pub mod Destroys
 pub mod DestroyBoxes
+pub mod Closed
+pub mod Destroy

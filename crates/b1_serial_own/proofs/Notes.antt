@@ -20,7 +20,6 @@ Queue = List (Key × Entry)
 abbrev pub key_at : ℕ → ℕ → ℕ → Key
 key_at stamp origin index = record { stamp = stamp; origin = origin; index = index }
 
-
 -- all of a queue are before a key
 abbrev pub AllBefore : Queue → Key → Type 0
 AllBefore queue k = (f : Key × Entry) → Has queue f → key_before f.0 k ≡ true

@@ -62,8 +62,8 @@ module _ (p : ℕ) (d : DriverPart) where
       by (needs z serial)
       (visits_shown rest (i + 1) z apart.1 numbered (next_before p (z.clock + 1) i z.queue before))
       (visits_shown rest (i + 1) (marked_at i serial z) apart.1
-          (numbers_same z.given (record { owner = p; serial = serial }) tables.noticed (λ h. refl) (λ h. refl) (λ h. refl) z.handles numbered)
-          (subst (λ q. AllBefore q (key_at (z.clock + 1) p (i + 1))) (sym appended) (before_more z.queue (key_at (z.clock + 1) p i) (key_at (z.clock + 1) p (i + 1)) (foreign_note p serial i) before (index_behind (foreign_note p) p (λ n. true) (z.clock + 1) i (i + 1) (omega arith)))))
+      (numbers_same z.given (record { owner = p; serial = serial }) tables.noticed (λ h. refl) (λ h. refl) (λ h. refl) z.handles numbered)
+      (subst (λ q. AllBefore q (key_at (z.clock + 1) p (i + 1))) (sym appended) (before_more z.queue (key_at (z.clock + 1) p i) (key_at (z.clock + 1) p (i + 1)) (foreign_note p serial i) before (index_behind (foreign_note p) p (λ n. true) (z.clock + 1) i (i + 1) (omega arith)))))
     where
       appended : put (key_at (z.clock + 1) p i) (foreign_note p serial i) z.queue ≡ z.queue ++ (key_at (z.clock + 1) p i, foreign_note p serial i) ∷ []
       appended = put_last (key_at (z.clock + 1) p i) (foreign_note p serial i) z.queue before

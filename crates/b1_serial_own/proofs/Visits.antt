@@ -230,7 +230,7 @@ module _ (o : Opening) (s : State) (p : ℕ) (x : PeerPart) (d : DriverPart) (co
     visited_one =
         recast o s p d command (updated v (λ y. visited y p doomed) (visit done)) (visit (done ++ v ∷ [])) (λ q y is_y. changed_more done v (λ n. visited n p doomed) doom new q y)
         (advance o s p d command at step (act.Visit v) v z is_z (out.Visit got) (λ y. visited y p doomed) refl refl does refl (λ b. refl)
-            (visiting (so_far (done ++ v ∷ [])) rest) (ap (λ k. Goes (visiting k rest)) visit_is) (λ told. never_done told (so_far (done ++ v ∷ [])) rest))
+        (visiting (so_far (done ++ v ∷ [])) rest) (ap (λ k. Goes (visiting k rest)) visit_is) (λ told. never_done told (so_far (done ++ v ∷ [])) rest))
 
   all_visits : (left done : List ℕ) → list ≡ done ++ left → Comes (visiting (so_far done) left) (visit done) → Comes (Dooming (so_far list)) (visit list)
   all_visits [] done is c = subst (λ l. Comes (Dooming (so_far l)) (visit l)) (sym (is ∙ append-nil done)) c
@@ -281,8 +281,8 @@ module _ (o : Opening) (s : State) (p : ℕ) (x : PeerPart) (d : DriverPart) (co
       let z = (others v there).1 in
       recast o s p d command (updated v (λ y. synced y stamp) (syncs done)) (syncs (done ++ v ∷ [])) (λ q y is_y. changed_more done v (λ n. synced n stamp) stamps (unvisited done rest v is) q y)
       (advance o s p d command (subst (λ ph. Within u ph (syncs done)) (sync_phase done rest v is) at) step (act.Sync v stamp) v z.0 z.1 out.Sync (λ y. synced y stamp)
-          (ap (λ n. act.Sync n stamp) (ap (λ l. get_or l (length done) p) is ∙ get_next done v rest p)) refl (λ memory e me. refl) refl (λ b. refl)
-          (syncing_notices (so_far list) stamp (length (done ++ v ∷ []))) (ap (λ n. Goes (syncing_notices (so_far list) stamp n)) (sym (length_push done v))) (sync_left (length (done ++ v ∷ []))))
+      (ap (λ n. act.Sync n stamp) (ap (λ l. get_or l (length done) p) is ∙ get_next done v rest p)) refl (λ memory e me. refl) refl (λ b. refl)
+      (syncing_notices (so_far list) stamp (length (done ++ v ∷ []))) (ap (λ n. Goes (syncing_notices (so_far list) stamp n)) (sym (length_push done v))) (sync_left (length (done ++ v ∷ []))))
 
   all_syncs : (left done : List ℕ) → list ≡ done ++ left → Comes (syncing_notices (so_far list) stamp (length done)) (syncs done) → Comes (CommittingOwn (so_far list) stamp) (syncs list)
   all_syncs [] done is c = subst (λ ph. Comes ph (syncs list)) own_phase (subst (λ l. Comes (syncing_notices (so_far list) stamp (length l)) (syncs l)) (sym (is ∙ append-nil done)) c)
@@ -363,7 +363,7 @@ module _ (o : Opening) (s : State) (p : ℕ) (x : PeerPart) (d : DriverPart) (co
       let z = (others v (listed done rest v is)).1 in
       recast_by (committing_notices command (so_far list) stamp (length (done ++ v ∷ []))) (updated v (λ y. notices_committed y p stamp) (commits done)) (commits (done ++ v ∷ [])) (λ q y is_y. changed_more done v (λ n. notices_committed n p stamp) commits_own (unvisited done rest v is) q y)
       (committed_by c.at k.step v z.0 z.1 (ap (λ n. act.CommitNotices n stamp) (ap (λ l. get_or l (length done) p) is ∙ get_next done v rest p)) refl k.left k.goes_on
-          (committing_notices command (so_far list) stamp (length (done ++ v ∷ []))) (ap (λ n. committing_notices command (so_far list) stamp n) (sym (length_push done v))) (turn_left (length (done ++ v ∷ []))))
+      (committing_notices command (so_far list) stamp (length (done ++ v ∷ []))) (ap (λ n. committing_notices command (so_far list) stamp n) (sym (length_push done v))) (turn_left (length (done ++ v ∷ []))))
 
   all_commits : (left done : List ℕ) → list ≡ done ++ left → ComesBy (committing_notices command (so_far list) stamp (length done)) (commits done) → ComesBy last (commits list)
   all_commits [] done is c =

@@ -1,4 +1,4 @@
-ghost use Rattle.std.specs.Prelude.{◌≡◌, ℕ, true, false, not, nat_lt, Some, slice_get};
+ghost use Rattle.std.specs.Prelude.{◌≡◌, ℕ, true, false, not, nat_lt, List, Some, slice_get};
 ghost use Rattle.b1_model.specs.declared.naming.Opening.{Opening};
 ghost use Rattle.b1_model.specs.Opening.{IsOpening};
 ghost use Rattle.b1_model.specs.declared.commands.Command.{Command};
@@ -53,4 +53,14 @@ pub fn a_receive_runs_to_rest()
         → waits y ≡ true
         → (t : State) × RunsWhole o m p cmd.Await s t × AtRest o t (at_peer y.me cleared bus)
         × ((e : DriverPart) → IsDriver t p e → nat_lt 0 (removed_by e) ≡ not (is_empty y.box)) }
+{}
+
+/// A NODES_DESTROY, refused or accepted, is run whole by a schedule, and leads from rest to rest: the serial bus then is that
+/// after the command.
+pub fn a_destruction_runs_to_rest()
+    ensures { (o : Opening) (s : State) (bus : Bus) (p : ℕ) (y : Part) (command : Command)
+        (numbers : List ℕ) (m : Shortage) → IsOpening o → Reached o s → AtRest o s bus
+        → slice_get bus p ≡ Some y → y.shut ≡ false
+        → resolved command y.calls ≡ cmd.Destroy numbers
+        → (t : State) × RunsWhole o m p command s t × AtRest o t (after_command_of m p command bus) }
 {}
