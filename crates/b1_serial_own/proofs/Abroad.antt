@@ -95,7 +95,7 @@ module _ (x : NodeRef) where
       ∙ sym (ap (nat_lt 0) (sum_by-cons (λ g. times_in x (boxed_references g)) f rest))
 
   -- a node has a line where it is held
-  has_line : (given : ℕ) (hs : Handles) → Rising hs → AreNumbered given hs → is_some (line_of x (lines_of hs)) ≡ nat_lt 0 (held_times x (lines_of hs))
+  pub has_line : (given : ℕ) (hs : Handles) → Rising hs → AreNumbered given hs → is_some (line_of x (lines_of hs)) ≡ nat_lt 0 (held_times x (lines_of hs))
   has_line given hs up numbered = lines_have x hs up ∙ by (record_of x hs) refl ∙ sym (ap (nat_lt 0) (lines_held x hs up numbered.unheld))
     where
       by_number : (h : HandleRecord) → Has hs h → (r : Option ℕ) → h.number ≡ r → is_some r ≡ nat_lt 0 h.held

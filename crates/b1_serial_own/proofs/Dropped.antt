@@ -83,7 +83,7 @@ abroad_at x g (suc q) (y ∷ ys) same = ap (λ b. refers x y || b) (abroad_at x 
 
 -- ---- the owner's part
 
-stamp_at : (nodes : List NodePart) (serial : ℕ) → serial < length nodes → elim (slice_get (map own_of nodes) serial) [ None ↦ None | Some n ↦ n.destroyed ] ≡ stamp_of (get_or nodes serial no_node).state
+pub stamp_at : (nodes : List NodePart) (serial : ℕ) → serial < length nodes → elim (slice_get (map own_of nodes) serial) [ None ↦ None | Some n ↦ n.destroyed ] ≡ stamp_of (get_or nodes serial no_node).state
 stamp_at [] serial less = absurd (omega (arith, less))
 stamp_at (n ∷ rest) zero less = refl
 stamp_at (n ∷ rest) (suc serial) less = stamp_at rest serial (omega (arith, less))
@@ -160,8 +160,8 @@ module _ {o : Opening} {s : State} {p : ℕ} {t : State} (sound : IsSound o s) (
   counted =
       let some = (sound.references.owed p step.driver one step.is_driver there).some in
       let owes : owed_amount one.node one.holder step.driver.owed ≡ one.amount + owed_amount one.node one.holder rest =
-          ap (owed_amount one.node one.holder) owed ∙ owed_cons one.node one.holder one rest
-          ∙ ap (λ b. cond b one.amount 0 + owed_amount one.node one.holder rest) (ap (λ b. b && (one.holder == one.holder)) (same_ref_itself one.node) ∙ eq-eqb one.holder one.holder refl) in
+      ap (owed_amount one.node one.holder) owed ∙ owed_cons one.node one.holder one rest
+      ∙ ap (λ b. cond b one.amount 0 + owed_amount one.node one.holder rest) (ap (λ b. b && (one.holder == one.holder)) (same_ref_itself one.node) ∙ eq-eqb one.holder one.holder refl) in
       let within = member_le (driver_amount one.node one.holder) s.drivers p step.driver step.is_driver in
       let same = sound.references.counts one.node one.holder in
       omega (arith, some, owes, within, same)

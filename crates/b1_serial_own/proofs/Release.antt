@@ -154,11 +154,11 @@ module _ (o : Opening) (s : State) (bus : Bus) (p : ℕ) (y : Part) (number : �
   first_shows =
       own_shows begins lower at_is
       (ap (λ v. lower (part_of v begins.driver)) peer_is ∙ ap (λ v. lower (part_of x v)) driver_is
-          ∙ ap (λ ls. record (part_of x d) { lines = ls }) lines_are
-          ∙ sym (ap (λ v. part_of v begins.new_driver) peer_after
-              ∙ ap (part_of lowered_peer) new_driver
-              ∙ ap (λ b. record (part_of lowered_peer d) { shut = b; calls = a.e.calls }) (a.shut ∙ ap (λ z. z.shut) driver_is)
-              ∙ ap (λ cs. record (part_of lowered_peer d) { calls = cs }) (a.calls ∙ ap (λ z. z.calls) driver_is)))
+      ∙ ap (λ ls. record (part_of x d) { lines = ls }) lines_are
+      ∙ sym (ap (λ v. part_of v begins.new_driver) peer_after
+      ∙ ap (part_of lowered_peer) new_driver
+      ∙ ap (λ b. record (part_of lowered_peer d) { shut = b; calls = a.e.calls }) (a.shut ∙ ap (λ z. z.shut) driver_is)
+      ∙ ap (λ cs. record (part_of lowered_peer d) { calls = cs }) (a.calls ∙ ap (λ z. z.calls) driver_is)))
       ∙ ap (at_peer p lower) (sym rest.is_bus)
 
   -- ---- the step that ends it
