@@ -1,6 +1,7 @@
 // What the program's words ask to be done on threads.
 ghost use Rattle.std.specs.Prelude.{◌≡◌, ◌<◌, ◌^◌, ℕ, map, string_bytes, IfNone, IfSome};
 ghost use Rattle.std.specs.Fmt.{decimal};
+ghost use Rattle.b1_shell.specs.declared.threaded.Threaded.TheVariants.{Soak};
 ghost use Rattle.b1_shell.specs.Threads as threads;
 
 use b1_text_words::{Item, read_item};
