@@ -84,11 +84,28 @@ module _ (o : Opening) (xs : List PeerSeen) (ds : List Driver) (closed : IsClose
   pub number_is : (p : ℕ) (d : Driver) → slice_get ds p ≡ Some d → d.part.me ≡ p
   number_is p d is = numbers.drivers p d.part (at_map (λ (e : Driver). e.part) ds p d is)
 
+  -- the drivers' lists are short
+  pub short_lists : AreShort (state_of xs ds)
+  short_lists p d is =
+      let (e, at_driver, same) = map_at (λ (f : Driver). f.part) ds p d is in
+      let few = (closed.idle p e at_driver).few in
+      subst (λ (f : DriverPart). length f.calls < call_limit) same (omega (arith, few))
+
   -- each driver may have a seat
   pub all_seated : AllByRecursion (IsSeated o) ds
   all_seated = each (IsSeated o) ds (λ p d is.
       let within = slice_get_within ds p d is in
-      record { idle = closed.idle p d is; known = omega (arith, number_is p d is, many_drivers, within) })
+      record {
+        idle = closed.idle p d is;
+        stands = record {
+          state = state_of xs ds;
+          opening = closed.opening;
+          reached = closed.reached;
+          short = short_lists;
+          driver = ap (slice_get (map (λ (e : Driver). e.part) ds)) (number_is p d is) ∙ at_map (λ (e : Driver). e.part) ds p d is;
+        };
+        known = omega (arith, number_is p d is, many_drivers, within);
+      })
 
   -- with their seats they are the drivers of the bus
   pub crew_of : (b : BusFace) → b.opening ≡ o → members (map (seated b.table b.opening) ds) ≡ crew b
@@ -118,14 +135,8 @@ all_closed o xs ds closed k d within = (closed.idle k (get_or ds k d) (slice_get
 
 -- a table whose locks are free, all peers at home, and all drivers' parts with one seat
 pub free_board : (o : Opening) (xs : List PeerSeen) (ds : List Driver) (ws : List ℕ) → IsClosed o xs ds → ws ≡ replicate (length xs) 0 → Kept o (state_of xs ds) (board ws xs (whole o (held_by ds)))
-free_board o xs ds ws closed words = starts o xs ds ws closed.opening closed.reached short closed.users closed.room wide zeros
+free_board o xs ds ws closed words = starts o xs ds ws closed.opening closed.reached (short_lists o xs ds closed) closed.users closed.room wide zeros
   where
-    short : AreShort (state_of xs ds)
-    short p d is =
-        let (e, at_driver, same) = map_at (λ (f : Driver). f.part) ds p d is in
-        let few = (closed.idle p e at_driver).few in
-        subst (λ (f : DriverPart). length f.calls < call_limit) same (omega (arith, few))
-
     wide : length ws ≡ length o.peers
     wide = ap length words ∙ length-replicate (length xs) 0 ∙ many_peers o xs ds closed
 

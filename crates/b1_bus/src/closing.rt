@@ -4,7 +4,7 @@ ghost use Rattle.b1_model.specs.Legal.{Legal};
 ghost use Rattle.b1_model.specs.MachineStep.{record_of_state, Reached};
 ghost use Rattle.b1_rule.specs.Rule.{held_by, holding, state_of, whole, LedTo};
 ghost use Rattle.b1_locks.specs.Faces.{crew, members, part_at, IsIdle};
-ghost use Rattle.b1_bus.specs.Seated.{IsOn};
+ghost use Rattle.b1_bus.specs.Seated.{IsOn, driver_at};
 
 use crate::kinds::{Board, Bus, Driver, Peer, Place};
 use crate::making::lay;
@@ -12,7 +12,7 @@ use crate::taking::take_all;
 use b1_core::records;
 use b1_driver::DriverState;
 use b1_legal::every_reached_record_is_legal;
-use b1_model::{Opening, PeerCalls, PeerLists, Record};
+use b1_model::{Call, Opening, PeerCalls, PeerLists, Record};
 use b1_rule::Both;
 use std::alloc::{AllocError, Global};
 use std::marker::Model;
@@ -137,8 +137,16 @@ impl Closed {
     pub fn facts(&self)
         ensures reached { Reached self.now.opening (state_of self.now.peers self.now.drivers) }
         ensures closed { All (λ d. d.part.doing ≡ None) self.now.drivers }
+        ensures as_many { length self.now.drivers ≡ length self.now.peers }
     {
         let _ = &self.opening;
+    }
+
+    /// How many peers there are.
+    pub fn count(&self) -> u32
+        ensures { result ≡ length self.now.peers }
+    {
+        self.peers.len() as u32
     }
 
     /// Whether the queue of peer p is empty.
@@ -147,6 +155,22 @@ impl Closed {
         ensures { result ≡ (length (part_at self.now.peers p).queue == 0) }
     {
         self.peers[p as usize].waiting() == 0
+    }
+
+    /// The calls of peer p, in their order.
+    pub fn calls(&self, p: u32) -> &[Call]
+        requires { p < length self.now.drivers }
+        ensures { result.now ≡ (driver_at self.now.drivers p).calls }
+    {
+        self.drivers[p as usize].calls()
+    }
+
+    /// Whether peer p has disconnected.
+    pub fn is_shut(&self, p: u32) -> bool
+        requires { p < length self.now.drivers }
+        ensures { result ≡ (driver_at self.now.drivers p).shut }
+    {
+        self.drivers[p as usize].is_shut()
     }
 
     /// A bus in the closed state, and its drivers in the order of their peers, as they were. An error is want of memory,
