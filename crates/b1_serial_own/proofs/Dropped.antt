@@ -170,7 +170,7 @@ module _ {o : Opening} {s : State} {p : ℕ} {t : State} (sound : IsSound o s) (
   count_is = ap (λ r. elim r [ None ↦ 0 | Some v ↦ count_of (node_at v one.node.serial) one.holder ]) owner_there
 
   -- so that no release notice of the node is queued
-  none_queued : (f : Key × Entry) → Has step.peer.queue f → is_release_notice one.node.serial f ≡ false
+  pub none_queued : (f : Key × Entry) → Has step.peer.queue f → is_release_notice one.node.serial f ≡ false
   none_queued f queued = false_from_ne_true (is_release_notice one.node.serial f) never
     where
       never : is_release_notice one.node.serial f ≡ true → ⊥

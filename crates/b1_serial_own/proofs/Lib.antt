@@ -28,3 +28,5 @@ pub mod Destroys
 pub mod DestroyBoxes
 pub mod Closed
 pub mod Destroy
+pub mod Drops
+pub mod Flushes
