@@ -30,3 +30,4 @@ pub mod Closed
 pub mod Destroy
 pub mod Drops
 pub mod Flushes
+pub mod Items

@@ -19,7 +19,7 @@ use Rattle.b1_serial_rest.specs.Standing.{line_under, put_line, with_line, lines
 use Rattle.b1_serial_own.proofs.Sorted.{NoneNumbered, put_none_numbered, lines_in_order, put_lowered, put_own_lowered}
 
 -- records without a number have no line with it
-none_numbered : (n : ℕ) (hs : Handles) → ((h : HandleRecord) → Has hs h → h.number ≢ Some n) → NoneNumbered n (lines_of hs)
+pub none_numbered : (n : ℕ) (hs : Handles) → ((h : HandleRecord) → Has hs h → h.number ≢ Some n) → NoneNumbered n (lines_of hs)
 none_numbered n [] none = tt
 none_numbered n (h ∷ rest) none = by (none_numbered n rest (λ g there. none g (inr there))) h.number refl
   where
