@@ -31,3 +31,4 @@ pub mod Destroy
 pub mod Drops
 pub mod Flushes
 pub mod Items
+pub mod GivenAll
