@@ -2,7 +2,7 @@
 use Rattle.std.proofs.Common.{◌≡◌, ◌≢◌, ◌⊎◌, refl, sym, ap, ◌∙◌, subst, inl, inr, ℕ, zero, suc, ◌+◌, ◌<◌, ◌≤◌, ◌==◌, max, Bool, true, false, cond, ◌&&◌, ◌||◌, not, List, [], ◌∷◌, ◌++◌, length, get_or, map, Option, Some, None, append-nil, arith}
 use Rattle.std.specs.List.{list_any}
 use Rattle.std.proofs.lemmas.Bool.{cases_eq, eq-eqb, ne_eqb, false_from_ne_true}
-use Rattle.std.proofs.lemmas.List.{get_or-set_other}
+use Rattle.std.proofs.lemmas.List.{get_or-set_other, length-set}
 use Rattle.b1_model.specs.declared.naming.Key.{Key}
 use Rattle.b1_model.specs.declared.naming.NodeRef.{NodeRef}
 use Rattle.b1_model.specs.declared.entries.Entry.{Entry}
@@ -48,6 +48,7 @@ pub record DropsAt (c q : ℕ) (done : Refs) (z w : PeerPart) : Type 0 where
   pub stays : (f : Key × Entry) → Has z.queue f → Has w.queue f
   -- a node that is live and that nobody has any more has its notice
   pub noticed : (serial : ℕ) → DroppedAt q done serial → is_released w serial ≡ true → (k : Key) × Has w.queue (k, ReleaseNotice serial)
+  pub made : (serial : ℕ) → DroppedAt q done serial → serial < length w.nodes
   -- it had none before
   pub unnoticed : (serial : ℕ) (f : Key × Entry) → DroppedAt q done serial → Has z.queue f → is_release_notice serial f ≡ false
 
@@ -60,6 +61,7 @@ none_dropped c q z = record {
   comes = λ f there. inl there;
   stays = λ f there. there;
   noticed = λ serial at is. absurd at.there;
+  made = λ serial at. absurd at.there;
   unnoticed = λ serial f at there. absurd at.there;
 }
 
@@ -102,6 +104,7 @@ module _ (c q : ℕ) (done : Refs) (z w : PeerPart) (r : NodeRef × ℕ) (k : Dr
     comes = λ f there. elim (k.comes f there) [ inl old ↦ inl old | inr new ↦ inr (new.0, dropped_earlier q new.0 done r new.1, new.2) ];
     stays = k.stays;
     noticed = λ serial at is. elim (last_or_earlier q serial done r at) [ inl old ↦ k.noticed serial old is | inr last ↦ absurd (apart last.0) ];
+    made = λ serial at. elim (last_or_earlier q serial done r at) [ inl old ↦ k.made serial old | inr last ↦ absurd (apart last.0) ];
     unnoticed = λ serial f at there. elim (last_or_earlier q serial done r at) [ inl old ↦ k.unnoticed serial f old there | inr last ↦ absurd (apart last.0) ];
   }
     where
@@ -110,7 +113,7 @@ module _ (c q : ℕ) (done : Refs) (z w : PeerPart) (r : NodeRef × ℕ) (k : Dr
       or_false false = refl
 
   -- a drop here
-  module _ (holder : ℕ) (here : r.0.owner ≡ q) (unqueued : (f : Key × Entry) → Has w.queue f → is_release_notice r.0.serial f ≡ false) where
+  module _ (holder : ℕ) (here : r.0.owner ≡ q) (unqueued : (f : Key × Entry) → Has w.queue f → is_release_notice r.0.serial f ≡ false) (there : r.0.serial < length w.nodes) where
     abbrev serial : ℕ
     serial = r.0.serial
 
@@ -184,6 +187,10 @@ module _ (c q : ℕ) (done : Refs) (z w : PeerPart) (r : NodeRef × ℕ) (k : Dr
       ];
       stays = λ f there. stays_by bit f (k.stays f there);
       noticed = noticed_then;
+      made = λ other at. elim (last_or_earlier q other done r at) [
+        | inl old ↦ (let less = k.made other old in let many = many_nodes in omega (arith, less, many))
+        | inr new ↦ (let many = many_nodes in let same = new.1 in omega (arith, there, many, same))
+      ];
       unnoticed = λ other f at there. elim (last_or_earlier q other done r at) [
         | inl old ↦ k.unnoticed other f old there
         | inr new ↦ ap (λ n. is_release_notice n f) (sym new.1) ∙ unqueued f (k.stays f there)
@@ -193,6 +200,9 @@ module _ (c q : ℕ) (done : Refs) (z w : PeerPart) (r : NodeRef × ℕ) (k : Dr
         or_true : (b : Bool) → b || true ≡ true
         or_true true = refl
         or_true false = refl
+
+        many_nodes : length after.nodes ≡ length w.nodes
+        many_nodes = ap length (nodes_by bit) ∙ length-set w.nodes serial (uncounted holder r.1 (get_or w.nodes serial no_node))
 
         nodes_so : map own_of after.nodes ≡ map own_of w.nodes
         nodes_so = ap (map own_of) (nodes_by bit) ∙ map_set own_of w.nodes serial (uncounted holder r.1 (get_or w.nodes serial no_node)) no_node refl

@@ -1,5 +1,5 @@
 -- The flush of a peer, and the drops behind it, to the end of the command.
-use Rattle.std.proofs.Common.{◌≡◌, ◌≢◌, ◌⊎◌, refl, sym, ap, ◌∙◌, subst, inl, inr, ℕ, zero, suc, ◌==◌, Bool, true, false, cond, ◌||◌, not, List, [], ◌∷◌, ◌++◌, map, drop, Option, Some, None, option_map, append-nil, append_assoc}
+use Rattle.std.proofs.Common.{◌≡◌, ◌≢◌, ◌⊎◌, refl, sym, ap, ◌∙◌, subst, inl, inr, ℕ, zero, suc, ◌==◌, Bool, true, false, cond, ◌||◌, not, List, [], ◌∷◌, ◌++◌, map, drop, Option, Some, None, option_map, append-nil, append_assoc, length, ◌<◌}
 use Rattle.std.specs.Prelude.{slice_get}
 use Rattle.std.proofs.lemmas.Option.{same_Some}
 use Rattle.std.proofs.lemmas.Bool.{cases_eq}
@@ -203,6 +203,11 @@ module _ (o : Opening) (s : State) (p : ℕ) (d : DriverPart) (command : Command
     peer_then : step.new_peer ≡ dropped step.peer r.0.serial p r.1 flat.clock
     peer_then = drop_peer sound right step dropping open_then one (drops_of p flat.clock more) owed_then unfixed (record flat { dead = items }) at.own
 
+    made_here : {q : ℕ} (y : PeerPart) → r.0.owner ≡ q → IsPeer u q y → r.0.serial < length y.nodes
+    made_here y own is_y =
+        let made = (sound.references.owed p step.driver one step.is_driver (subst (λ l. Has l one) (sym owed_then) (inl refl))).made in
+        subst (λ x. r.0.serial < length x.nodes) (same_Some made.0 y (sym made.1 ∙ ap (slice_get u.peers) own ∙ is_y)) made.2
+
     peers_then : (q : ℕ) (z : PeerPart) → q ≢ p → IsPeer v q z → (y : PeerPart) × IsPeer w q y × DropsAt flat.clock q (done ++ r ∷ []) z y
     peers_then q z apart is_z = by (at.peers q z apart is_z) (cases_eq q step.at)
       where
@@ -212,7 +217,7 @@ module _ (o : Opening) (s : State) (p : ℕ) (d : DriverPart) (command : Command
               dropped k.0 r.0.serial p r.1 flat.clock,
               ap (slice_get w.peers) same ∙ at_peer step ∙ ap Some (peer_then ∙ ap (λ x. dropped x r.0.serial p r.1 flat.clock) peer),
               drop_here flat.clock q done z k.0 r k.2 p (sym owner_is ∙ sym same) (λ f queued.
-                  none_queued sound right step dropping open_then one (drops_of p flat.clock more) owed_then unfixed (record flat { dead = items }) at.own f (subst (λ x. Has x.queue f) (sym peer) queued)),
+                  none_queued sound right step dropping open_then one (drops_of p flat.clock more) owed_then unfixed (record flat { dead = items }) at.own f (subst (λ x. Has x.queue f) (sym peer) queued)) (made_here k.0 (sym owner_is ∙ sym same) k.1),
             )
         by k (inr other) = (k.0, other_peer step q other ∙ k.1, drop_beside flat.clock q done z k.0 r k.2 (λ e. other (sym e ∙ sym owner_is)))
 

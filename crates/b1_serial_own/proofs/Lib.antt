@@ -32,3 +32,4 @@ pub mod Drops
 pub mod Flushes
 pub mod Items
 pub mod GivenAll
+pub mod Emptied
