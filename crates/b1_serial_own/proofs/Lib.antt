@@ -33,3 +33,4 @@ pub mod Flushes
 pub mod Items
 pub mod GivenAll
 pub mod Emptied
+pub mod FlushEnds
