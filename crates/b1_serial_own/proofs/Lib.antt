@@ -34,3 +34,4 @@ pub mod Items
 pub mod GivenAll
 pub mod Emptied
 pub mod FlushEnds
+pub mod Reset
