@@ -1,20 +1,19 @@
 -- What drops of one peer's references make of their nodes' owners.
-use Rattle.std.proofs.Common.{◌≡◌, ◌≢◌, ◌⊎◌, refl, sym, ap, ◌∙◌, subst, inl, inr, ℕ, zero, suc, ◌+◌, ◌<◌, ◌≤◌, ◌==◌, max, Bool, true, false, cond, ◌&&◌, ◌||◌, not, List, [], ◌∷◌, ◌++◌, length, get_or, map, Option, Some, None, append-nil, arith}
+use Rattle.std.proofs.Common.{◌≡◌, ◌≢◌, ◌⊎◌, refl, sym, ap, ◌∙◌, subst, inl, inr, ℕ, ◌<◌, ◌==◌, max, Bool, true, false, cond, ◌&&◌, ◌||◌, List, [], ◌∷◌, ◌++◌, length, get_or, map, arith}
 use Rattle.std.specs.List.{list_any}
-use Rattle.std.proofs.lemmas.Bool.{cases_eq, eq-eqb, ne_eqb, false_from_ne_true}
+use Rattle.std.proofs.lemmas.Bool.{cases_eq, eq-eqb, ne_eqb}
 use Rattle.std.proofs.lemmas.List.{get_or-set_other, length-set}
 use Rattle.b1_model.specs.declared.naming.Key.{Key}
 use Rattle.b1_model.specs.declared.naming.NodeRef.{NodeRef}
 use Rattle.b1_model.specs.declared.entries.Entry.{Entry}
 use Rattle.b1_model.specs.declared.entries.Entry.TheVariants.{ReleaseNotice}
-use Rattle.b1_model.specs.MachineParts.{PeerPart, DriverPart, no_origin, is_release_notice, is_live, node_at, no_node}
-use Rattle.b1_model.specs.MachineTables.{put, with_node, uncounted, is_unheld}
+use Rattle.b1_model.specs.MachineParts.{PeerPart, no_origin, is_release_notice, is_live, node_at, no_node}
+use Rattle.b1_model.specs.MachineTables.{uncounted, is_unheld}
 use Rattle.b1_model.specs.MachineReceive.{dropped_refs, with_release_notice, is_released, dropped}
 use Rattle.b1_step.specs.Rights.{Has}
 use Rattle.b1_step.proofs.Lists.{has_append, map_set}
 use Rattle.b1_step.proofs.Queues.{has_put_new, has_put_old, put_has}
 use Rattle.b1_serial_rest.specs.Standing.{own_of}
-
 
 abbrev pub Refs : Type 0
 Refs = List (NodeRef × ℕ)

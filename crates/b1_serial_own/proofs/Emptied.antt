@@ -1,10 +1,8 @@
 -- The flush of a peer and all that it gives up lead to the serial bus behind its flush.
-use Rattle.std.proofs.Common.{◌≡◌, ◌≢◌, ◌⊎◌, refl, sym, ap, ◌∙◌, subst, inl, inr, ℕ, zero, suc, ◌+◌, ◌<◌, ◌≤◌, ◌==◌, max, Bool, true, false, cond, ◌&&◌, ◌||◌, not, List, [], ◌∷◌, ◌++◌, map, fold, flat_map, length, get_or, Option, Some, None, is_none, is_some, option_map, arith}
+use Rattle.std.proofs.Common.{◌≡◌, ◌≢◌, ◌⊎◌, refl, sym, ap, ◌∙◌, subst, inl, inr, ℕ, Bool, false, ◌||◌, [], ◌++◌, Option, Some, None}
 use Rattle.std.specs.Prelude.{slice_get}
-use Rattle.std.specs.List.{list_any}
-use Rattle.std.proofs.lemmas.Option.{same_Some, slice_get_within}
-use Rattle.std.proofs.lemmas.Bool.{cases_eq, cases_lt, and_parts, and_from, eqb-true, false_from_ne_true, true_from_ne_false}
-use Rattle.std.proofs.lemmas.List.{get_or_past}
+use Rattle.std.proofs.lemmas.Option.{same_Some}
+use Rattle.std.proofs.lemmas.Bool.{cases_eq, false_from_ne_true}
 use Rattle.b1_model.specs.declared.naming.Key.{Key}
 use Rattle.b1_model.specs.declared.naming.NodeRef.{NodeRef}
 use Rattle.b1_model.specs.declared.naming.Opening.{Opening}
@@ -16,19 +14,15 @@ use Rattle.b1_model.specs.declared.answers.Answer.TheVariants as ans
 use Rattle.b1_model.specs.declared.events.Action.TheVariants as act
 use Rattle.b1_model.specs.declared.events.Doing.{Doing}
 use Rattle.b1_model.specs.declared.events.Outcome.TheVariants as out
-use Rattle.b1_model.specs.declared.events.Phase.{Phase}
 use Rattle.b1_model.specs.declared.events.Phase.TheVariants.{Reaping, Flushing}
-use Rattle.b1_model.specs.MachineParts.{PeerPart, DriverPart, NodePart, HandleRecord, State, same_ref, is_staged, is_live, is_dying, is_release_notice, no_origin, record_of, node_at, no_node}
-use Rattle.b1_model.specs.MachineTables.{is_unheld}
-use Rattle.b1_model.specs.MachineReceive.{has_dead, is_released}
+use Rattle.b1_model.specs.MachineParts.{PeerPart, DriverPart, HandleRecord, State, same_ref, is_staged, record_of}
+use Rattle.b1_model.specs.MachineReceive.{has_dead}
 use Rattle.b1_model.specs.MachineDestroy.{queued_items, held_items, flushed}
 use Rattle.b1_model.specs.MachineDriver.{Goes, next_action}
-use Rattle.b1_model.specs.MachineTook.{is_disconnect, call_of, with_facts, turned}
+use Rattle.b1_model.specs.MachineTook.{is_disconnect, with_facts, turned}
 use Rattle.b1_model.specs.MachineEvents.{limits_after}
-use Rattle.b1_model.specs.MachineStep.{Step, Reached}
+use Rattle.b1_model.specs.MachineStep.{Step}
 use Rattle.b1_step.specs.Rights.{Has}
-use Rattle.b1_step.specs.Ordered.{Ascending}
-use Rattle.b1_step.proofs.Lists.{has_within}
 use Rattle.b1_step.proofs.Orders.{same_ref_is}
 use Rattle.b1_step.proofs.Steps.{reached_more}
 use Rattle.b1_step.proofs.Locality.{own_driver, other_driver, at_peer as peer_at, other_peer}
@@ -37,36 +31,21 @@ use Rattle.b1_inv.specs.Sound.{IsSound}
 use Rattle.b1_inv_record.specs.Right.{IsRight}
 use Rattle.b1_inv_refs.proofs.Views.{or_none}
 use Rattle.b1_inv_refs.proofs.GivenUp.{found_has}
-use Rattle.b1_inv_refs.proofs.SameWires.{any_has}
-use Rattle.b1_inv_ends.proofs.Ending.{there_any}
 use Rattle.b1_inv_tools.proofs.Facts.{next_of}
 use Rattle.b1_law.proofs.Reached.{reached_sound}
 use Rattle.b1_legal.proofs.Reached.{reached_right}
 use Rattle.b1_play_end.specs.Course.{OpenTold}
-use Rattle.b1_serial_bus.specs.Parts.{Part, Bus, at_peer}
-use Rattle.b1_serial_bus.specs.Named.{line_of}
-use Rattle.b1_serial_bus.specs.Lives.{destroyed_at}
-use Rattle.b1_serial_bus.specs.References.{has_slot, refers, is_abroad}
-use Rattle.b1_serial_bus.specs.GivenUp.{given_up}
-use Rattle.b1_serial_bus.specs.Flush as bus_flush
-use Rattle.b1_serial_bus.specs.Flush.{all_references, emptied, flush}
-use Rattle.b1_serial_rest.specs.Standing.{own_of, part_of, parts_of, bus_of}
-use Rattle.b1_serial_rest.specs.Rest.{IsQuiet, BoxesRight, AtRest}
-use Rattle.b1_serial_rest.proofs.Own.{Parts, parts_at}
-use Rattle.b1_serial_whole.proofs.Whole.{GoesOn}
+use Rattle.b1_serial_bus.specs.Parts.{Bus}
+use Rattle.b1_serial_bus.specs.Flush.{all_references}
+use Rattle.b1_serial_rest.specs.Standing.{part_of}
+use Rattle.b1_serial_rest.specs.Rest.{AtRest}
 use Rattle.b1_serial_whole.proofs.Told.{reached_told}
-use Rattle.b1_serial_whole.proofs.Quiet.{element_there, driver_beside, is_quiet}
-use Rattle.b1_serial_own.proofs.Shows.{read_at, read_beside, as_many_at, part_there}
+use Rattle.b1_serial_whole.proofs.Quiet.{driver_beside}
 use Rattle.b1_serial_own.proofs.Moved.{Moved, moved_at, moved_driver, moved_peer}
-use Rattle.b1_serial_own.proofs.BoxKept.{boxes_kept}
-use Rattle.b1_serial_own.proofs.Abroad.{any_found, any_at, unheld_abroad}
-use Rattle.b1_serial_own.proofs.Dropped.{live_is}
-use Rattle.b1_serial_own.proofs.Amid.{Become, Amid, Further, steps_on, moved_on}
-use Rattle.b1_serial_own.proofs.Destroys.{same_all, parts_read, of_both}
-use Rattle.b1_serial_own.proofs.Drops.{Refs, DropsAt, DroppedAt, none_dropped, release_note, touches}
-use Rattle.b1_serial_own.proofs.Flushes.{Giving, Comes, all_refs, some_items, goes_then, ends_then, same_then, give_all, given_end}
+use Rattle.b1_serial_own.proofs.Amid.{Become, Amid, moved_on}
+use Rattle.b1_serial_own.proofs.Drops.{none_dropped}
+use Rattle.b1_serial_own.proofs.Flushes.{Giving, all_refs, some_items, goes_then, ends_then, same_then}
 use Rattle.b1_serial_own.proofs.Items.{nodes_of, items_refs}
-use Rattle.b1_serial_own.proofs.GivenAll.{GivenOf, GivenAt, none_given, concerns, same_entries, all_given, given_all_boxes}
 
 -- ---- the step of the flush
 

@@ -1,10 +1,9 @@
 -- Behind the flush of a peer and its drops the machine shows the serial bus behind that flush.
-use Rattle.std.proofs.Common.{◌≡◌, ◌≢◌, ◌⊎◌, refl, sym, ap, ◌∙◌, subst, inl, inr, ℕ, zero, suc, ◌+◌, ◌<◌, ◌≤◌, ◌==◌, max, Bool, true, false, cond, ◌&&◌, ◌||◌, not, List, [], ◌∷◌, ◌++◌, map, fold, length, Option, Some, None, is_none, is_some, option_map, arith}
+use Rattle.std.proofs.Common.{◌≡◌, ◌≢◌, ◌⊎◌, refl, sym, ap, ◌∙◌, subst, inl, inr, ℕ, suc, ◌<◌, ◌==◌, max, Bool, true, false, cond, ◌&&◌, ◌||◌, not, List, [], ◌∷◌, ◌++◌, fold, length, Option, Some, None, is_none, is_some, arith}
 use Rattle.std.specs.Prelude.{slice_get}
 use Rattle.std.specs.List.{list_any}
 use Rattle.std.proofs.lemmas.Option.{same_Some, slice_get_within}
 use Rattle.std.proofs.lemmas.Bool.{cases_eq, and_from, eq-eqb, eqb-true, false_from_ne_true}
-use Rattle.std.proofs.lemmas.List.{get_or_past, length-map}
 use Rattle.b1_model.specs.declared.naming.Key.{Key}
 use Rattle.b1_model.specs.declared.naming.NodeRef.{NodeRef}
 use Rattle.b1_model.specs.declared.naming.Opening.{Opening}
@@ -18,7 +17,7 @@ use Rattle.b1_model.specs.MachineParts.{PeerPart, DriverPart, HandleRecord, Stat
 use Rattle.b1_model.specs.MachineTables.{is_unheld}
 use Rattle.b1_model.specs.MachineReceive.{is_released}
 use Rattle.b1_model.specs.MachineTook.{is_disconnect, call_of}
-use Rattle.b1_model.specs.MachineStep.{Step, Reached}
+use Rattle.b1_model.specs.MachineStep.{Step}
 use Rattle.b1_step.specs.Rights.{Has}
 use Rattle.b1_step.specs.Ordered.{Ascending}
 use Rattle.b1_step.proofs.Lists.{has_append, has_within}
@@ -39,22 +38,21 @@ use Rattle.b1_serial_bus.specs.References.{has_slot, refers, is_abroad}
 use Rattle.b1_serial_bus.specs.GivenUp.{given_up}
 use Rattle.b1_serial_bus.specs.Flush as bus_flush
 use Rattle.b1_serial_bus.specs.Flush.{all_references, emptied, flush}
-use Rattle.b1_serial_rest.specs.Standing.{own_of, lines_of, part_of, parts_of, bus_of}
+use Rattle.b1_serial_rest.specs.Standing.{lines_of, part_of, parts_of, bus_of}
 use Rattle.b1_serial_rest.specs.Rest.{IsQuiet, BoxesRight, AtRest}
-use Rattle.b1_serial_rest.proofs.Own.{Parts, parts_at}
+use Rattle.b1_serial_rest.proofs.Own.{parts_at}
 use Rattle.b1_serial_whole.proofs.Whole.{GoesOn}
-use Rattle.b1_serial_whole.proofs.Quiet.{element_there, driver_beside, is_quiet}
+use Rattle.b1_serial_whole.proofs.Quiet.{element_there, is_quiet}
 use Rattle.b1_serial_own.proofs.Shows.{read_at, read_beside, as_many_at, part_there}
 use Rattle.b1_serial_own.proofs.BoxKept.{stamp_in, boxes_kept}
 use Rattle.b1_serial_own.proofs.Abroad.{any_found, any_at, unheld_abroad}
 use Rattle.b1_serial_own.proofs.Dropped.{live_is}
 use Rattle.b1_serial_own.proofs.Amid.{Become, Amid}
-use Rattle.b1_serial_own.proofs.Destroys.{same_all}
 use Rattle.b1_serial_own.proofs.Drops.{Refs, DropsAt, DroppedAt, release_note, touches}
 use Rattle.b1_serial_own.proofs.Flushes.{Items, Giving, Comes, all_refs, give_all, given_end}
 use Rattle.b1_serial_own.proofs.Items.{nodes_of}
 use Rattle.b1_serial_own.proofs.GivenAll.{GivenOf, GivenAt, none_given, concerns, same_entries, all_given, given_all_boxes}
-use Rattle.b1_serial_own.proofs.Emptied.{flat, shut_then, flush_begun, flush_beside, gives_references}
+use Rattle.b1_serial_own.proofs.Emptied.{flat, flush_begun, flush_beside, gives_references}
 
 -- ---- lists
 
@@ -453,4 +451,4 @@ module _ (o : Opening) (s : State) (bus : Bus) (p : ℕ) (d : DriverPart) (comma
   flush_boxes boxes =
       subst BoxesRight after_is
       (given_all_boxes clock given start
-          (boxes_kept (emptied command stamp) p before (λ y there. record { me = refl; nodes = refl; comes = λ f in_it. absurd in_it; noticed = λ f n in_it old is. absurd in_it }) boxes))
+      (boxes_kept (emptied command stamp) p before (λ y there. record { me = refl; nodes = refl; comes = λ f in_it. absurd in_it; noticed = λ f n in_it old is. absurd in_it }) boxes))

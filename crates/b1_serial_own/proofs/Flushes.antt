@@ -1,5 +1,5 @@
 -- The flush of a peer, and the drops behind it, to the end of the command.
-use Rattle.std.proofs.Common.{◌≡◌, ◌≢◌, ◌⊎◌, refl, sym, ap, ◌∙◌, subst, inl, inr, ℕ, zero, suc, ◌==◌, Bool, true, false, cond, ◌||◌, not, List, [], ◌∷◌, ◌++◌, map, drop, Option, Some, None, option_map, append-nil, append_assoc, length, ◌<◌}
+use Rattle.std.proofs.Common.{◌≡◌, ◌≢◌, ◌⊎◌, refl, sym, ap, ◌∙◌, subst, inl, inr, ℕ, zero, suc, Bool, true, false, not, List, [], ◌∷◌, ◌++◌, drop, Option, Some, None, append-nil, append_assoc, length, ◌<◌}
 use Rattle.std.specs.Prelude.{slice_get}
 use Rattle.std.proofs.lemmas.Option.{same_Some}
 use Rattle.std.proofs.lemmas.Bool.{cases_eq}
@@ -13,14 +13,11 @@ use Rattle.b1_model.specs.declared.events.Action.TheVariants as act
 use Rattle.b1_model.specs.declared.events.Doing.{Doing}
 use Rattle.b1_model.specs.declared.events.OwedDrop.{OwedDrop}
 use Rattle.b1_model.specs.declared.events.Outcome.TheVariants as out
-use Rattle.b1_model.specs.declared.events.Phase.{Phase}
-use Rattle.b1_model.specs.declared.events.Phase.TheVariants.{Reaping, Flushing}
+use Rattle.b1_model.specs.declared.events.Phase.TheVariants.{Reaping}
 use Rattle.b1_model.specs.MachineParts.{PeerPart, DriverPart, State}
 use Rattle.b1_model.specs.MachineReceive.{has_dead, reaped, reaped_part, dropped}
-use Rattle.b1_model.specs.MachineDestroy.{flushed}
-use Rattle.b1_model.specs.MachineDriver.{Turn, Goes, next_action, peer_of, turn, is_flushing}
-use Rattle.b1_model.specs.MachineTook.{drops_of, is_disconnect, is_done, call_of, goes_by, with_facts, turned}
-use Rattle.b1_model.specs.MachineEvents.{limits_after}
+use Rattle.b1_model.specs.MachineDriver.{Goes, next_action}
+use Rattle.b1_model.specs.MachineTook.{drops_of, is_done, call_of, goes_by, with_facts, turned}
 use Rattle.b1_model.specs.MachineStep.{Step, Reached}
 use Rattle.b1_step.specs.Rights.{Has}
 use Rattle.b1_step.proofs.Steps.{reached_more}
@@ -33,8 +30,8 @@ use Rattle.b1_law.proofs.Reached.{reached_sound}
 use Rattle.b1_legal.proofs.Reached.{reached_right}
 use Rattle.b1_serial_whole.proofs.Whole.{GoesOn}
 use Rattle.b1_serial_own.proofs.Moved.{Moved, moved_at, moved_driver, moved_peer, further_moved, no_further}
-use Rattle.b1_serial_own.proofs.Dropped.{drop_at, drop_peer, owner_apart, holder_is, none_queued}
-use Rattle.b1_serial_own.proofs.Drops.{Refs, DropsAt, none_dropped, drop_beside, drop_here}
+use Rattle.b1_serial_own.proofs.Dropped.{drop_at, drop_peer, owner_apart, none_queued}
+use Rattle.b1_serial_own.proofs.Drops.{Refs, DropsAt, drop_beside, drop_here}
 
 abbrev pub Items : Type 0
 Items = List Refs

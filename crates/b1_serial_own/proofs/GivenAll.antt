@@ -1,12 +1,12 @@
 -- References that are given up one after another on the serial bus, with one clock.
-use Rattle.std.proofs.Common.{◌≡◌, ◌≢◌, ◌⊎◌, refl, sym, ap, ◌∙◌, subst, inl, inr, ℕ, zero, suc, ◌+◌, ◌<◌, ◌≤◌, ◌==◌, max, Bool, true, false, cond, ◌&&◌, ◌||◌, not, List, [], ◌∷◌, ◌++◌, map, fold, Option, Some, None, is_none, append-nil, append_assoc, arith}
+use Rattle.std.proofs.Common.{◌≡◌, ◌≢◌, ◌⊎◌, refl, sym, ap, ◌∙◌, subst, inl, inr, ℕ, ◌==◌, max, Bool, true, false, cond, ◌&&◌, ◌||◌, not, List, [], ◌∷◌, ◌++◌, fold, Some, is_none, append-nil, append_assoc, arith}
 use Rattle.std.specs.Prelude.{slice_get}
 use Rattle.std.specs.List.{list_any}
-use Rattle.std.proofs.lemmas.Bool.{cases_eq, eq-eqb, ne_eqb, not-true, and_parts}
+use Rattle.std.proofs.lemmas.Bool.{cases_eq, eq-eqb, ne_eqb, not-true}
 use Rattle.b1_model.specs.declared.naming.Key.{Key}
 use Rattle.b1_model.specs.declared.naming.NodeRef.{NodeRef}
 use Rattle.b1_model.specs.declared.entries.Entry.{Entry}
-use Rattle.b1_model.specs.declared.entries.Entry.TheVariants.{Message, OwnNotice, ForeignNotice, ReleaseNotice}
+use Rattle.b1_model.specs.declared.entries.Entry.TheVariants.{ReleaseNotice}
 use Rattle.b1_model.specs.MachineParts.{no_origin, is_release_notice}
 use Rattle.b1_model.specs.MachineTables.{put, without}
 use Rattle.b1_step.specs.Rights.{Has}
@@ -14,13 +14,13 @@ use Rattle.b1_step.specs.Ordered.{Behind, NewKey, Ascending}
 use Rattle.b1_step.proofs.Lists.{has_append, filter_has}
 use Rattle.b1_step.proofs.Orders.{put_ascending, without_ascending, key_trans, key_not_itself, behind_has}
 use Rattle.b1_step.proofs.Queues.{has_put_new, has_put_old, put_has, has_without, without_has}
-use Rattle.b1_serial_bus.specs.Parts.{Part, Bus, at_peer, key_of}
+use Rattle.b1_serial_bus.specs.Parts.{Part, Bus, at_peer}
 use Rattle.b1_serial_bus.specs.Lives.{destroyed_at}
-use Rattle.b1_serial_bus.specs.References.{refers, is_abroad}
+use Rattle.b1_serial_bus.specs.References.{is_abroad}
 use Rattle.b1_serial_bus.specs.GivenUp.{noticed, told, given_up}
 use Rattle.b1_serial_rest.specs.Rest.{BoxesRight}
 use Rattle.b1_serial_own.proofs.Shows.{read_at, read_beside}
-use Rattle.b1_serial_own.proofs.Dropped.{noticed_refers, abroad_at, notice_is}
+use Rattle.b1_serial_own.proofs.Dropped.{noticed_refers, abroad_at}
 use Rattle.b1_serial_own.proofs.Given.{given_boxes}
 use Rattle.b1_serial_own.proofs.Drops.{release_note}
 
@@ -270,8 +270,8 @@ module _ (c : ℕ) (start : Bus) where
         by k (inl own) = (
           told c (is_abroad n start) n.serial k.0,
           ap (λ b. slice_get (at_peer n.owner (told c b n.serial) bus) q) (same n)
-          ∙ ap (λ o. slice_get (at_peer o (told c (is_abroad n start) n.serial) bus) q) own
-          ∙ read_at q (told c (is_abroad n start) n.serial) bus k.0 k.1,
+              ∙ ap (λ o. slice_get (at_peer o (told c (is_abroad n start) n.serial) bus) q) own
+              ∙ read_at q (told c (is_abroad n start) n.serial) bus k.0 k.1,
           given_here c q out done y k.0 n k.2 own (λ f there. unnoticed y f (ap (slice_get start) own ∙ is_y) there) (λ f there origin. plain q y f is_y there origin),
         )
         by k (inr apart) = (k.0, read_beside n.owner q (told c (is_abroad n bus) n.serial) bus apart ∙ k.1, given_beside c q out done y k.0 n k.2 apart)

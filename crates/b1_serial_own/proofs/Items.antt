@@ -1,8 +1,8 @@
 -- What a flush gives up: on the machine items of references, on the serial bus the references of the box and of the lines.
-use Rattle.std.proofs.Common.{◌≡◌, ◌≢◌, ◌⊎◌, refl, sym, ap, ◌∙◌, subst, inl, inr, ℕ, zero, suc, ◌+◌, ◌*◌, ◌<◌, ◌≤◌, ◌==◌, Bool, true, false, cond, nat_lt, List, [], ◌∷◌, ◌++◌, map, fold, find, filter_map, flat_map, length, Option, Some, None, option_map, append_assoc, append-nil, arith}
+use Rattle.std.proofs.Common.{◌≡◌, ◌≢◌, ◌⊎◌, refl, sym, ap, ◌∙◌, subst, inl, inr, ℕ, zero, suc, ◌+◌, ◌<◌, ◌≤◌, Bool, true, false, cond, nat_lt, List, [], ◌∷◌, ◌++◌, map, find, filter_map, flat_map, Option, Some, None, option_map, append_assoc, append-nil, arith}
 use Rattle.std.proofs.lemmas.List.{map-append}
 use Rattle.std.specs.List.{range_with_len, cons_option}
-use Rattle.std.proofs.lemmas.Bool.{cases_eq, eq-eqb, ne_eqb, eqb-true, eqb-false, ltb-true, ltb-false}
+use Rattle.std.proofs.lemmas.Bool.{cases_eq, eq-eqb, ne_eqb, ltb-true, ltb-false}
 use Rattle.b1_model.specs.declared.naming.Key.{Key}
 use Rattle.b1_model.specs.declared.naming.NodeRef.{NodeRef}
 use Rattle.b1_model.specs.declared.entries.Entry.{Entry}
@@ -94,8 +94,8 @@ lines_strict given (h ∷ rest) up numbered = by (lines_strict given rest up.1 l
     by further (Some k) is =
         put_strict (line_under k h) (lines_of rest)
         (none_numbered k rest (λ g there numbered_so.
-            let same = one_record (h ∷ rest) g h up (inr there) (inl refl) (numbered.apart g h k (inr there) (inl refl) numbered_so is) in
-            absurd (not_later g there same)))
+        let same = one_record (h ∷ rest) g h up (inr there) (inl refl) (numbered.apart g h k (inr there) (inl refl) numbered_so is) in
+        absurd (not_later g there same)))
         further
       where
         not_later : (g : HandleRecord) → Has rest g → g ≡ h → ⊥
@@ -162,7 +162,7 @@ line_refs (suc len) from (l ∷ rest) up all = by (cases_eq l.number (next_numbe
         ap (λ b. cons_option (node_of_line (cond b (Some l) (line_numbered (next_number from) rest))) (named_by (l ∷ rest) (range_with_len (from + 1) len))) (eq-eqb l.number (next_number from) same)
         ∙ ap (λ ns. l.node ∷ ns)
         (named_later l rest (from + 1) len (λ g low e. absurd (omega (arith, low, e, same)))
-            ∙ first (given_later from len rest (subst (λ n. AllAbove n rest) same up.0) all.1))
+        ∙ first (given_later from len rest (subst (λ n. AllAbove n rest) same up.0) all.1))
     by (inr apart) first later =
         let g = all.0 in
         let low = g.1 in
@@ -196,4 +196,4 @@ items_refs queue given hs even up numbered =
     ∙ ap (λ l. l ++ nodes_of (all_refs (held_items given hs))) (queue_refs queue [] even)
     ∙ ap (λ l. flat_map boxed_references queue ++ l)
     (held_refs hs (range_with_len 0 given) ∙ same_names hs (range_with_len 0 given)
-        ∙ line_refs given 0 (lines_of hs) (lines_strict given hs up numbered) (lines_given given hs (λ h k there is. (numbered.held h k there is).1)))
+    ∙ line_refs given 0 (lines_of hs) (lines_strict given hs up numbered) (lines_given given hs (λ h k there is. (numbered.held h k there is).1)))

@@ -1,5 +1,5 @@
 -- A whole PEER_RESET with flush, and a whole PEER_DISCONNECT, lead from rest to rest.
-use Rattle.std.proofs.Common.{◌≡◌, ◌≢◌, ◌⊎◌, refl, sym, ap, ◌∙◌, subst, inl, inr, ℕ, zero, suc, ◌+◌, ◌<◌, ◌≤◌, ◌==◌, max, Bool, true, false, cond, if◌then◌else◌, List, [], ◌∷◌, ◌++◌, map, filter, length, get_or, Option, Some, None, Ok, Err, is_none, option_map, arith}
+use Rattle.std.proofs.Common.{◌≡◌, refl, sym, ap, ◌∙◌, subst, inl, ℕ, suc, ◌+◌, ◌<◌, ◌==◌, Bool, true, false, cond, if◌then◌else◌, List, [], ◌∷◌, ◌++◌, map, filter, length, get_or, Option, Some, None, Ok, Err, is_none, option_map, arith}
 use Rattle.std.specs.Prelude.{slice_get}
 use Rattle.std.specs.List.{range_with_len}
 use Rattle.std.proofs.lemmas.Option.{same_Some}
@@ -21,11 +21,11 @@ use Rattle.b1_model.specs.MachineDestroy.{reset_serials, visit_set, doomed_part}
 use Rattle.b1_model.specs.MachineDriver.{Goes, Ends, first_action, refused_at, is_flushing}
 use Rattle.b1_model.specs.MachineTook.{call_of}
 use Rattle.b1_model.specs.MachineEvents.{begin_refusal, begin_serials, destroy_by}
-use Rattle.b1_model.specs.MachineStep.{Step, Reached}
+use Rattle.b1_model.specs.MachineStep.{Reached}
 use Rattle.b1_schedule.specs.Shortage.{Shortage}
 use Rattle.b1_step.specs.Rights.{Has}
 use Rattle.b1_step.proofs.Lists.{has_within, filter_has}
-use Rattle.b1_inv.specs.Words.{IsPeer, IsDriver}
+use Rattle.b1_inv.specs.Words.{IsPeer}
 use Rattle.b1_inv.specs.Notices.{Apart}
 use Rattle.b1_inv.specs.Sound.{IsSound}
 use Rattle.b1_inv_record.specs.Right.{IsRight}
@@ -39,7 +39,7 @@ use Rattle.b1_serial_bus.specs.Destroy as bus_destroy
 use Rattle.b1_serial_bus.specs.Notices.{with_notices}
 use Rattle.b1_serial_bus.specs.Doom.{doom_stamp, with_all_doomed, destroyed}
 use Rattle.b1_serial_bus.specs.Flush.{flush, ended_by, after_reset}
-use Rattle.b1_serial_bus.specs.Commands.{after_open, after_command}
+use Rattle.b1_serial_bus.specs.Commands.{after_command}
 use Rattle.b1_serial_rest.specs.Standing.{own_of, part_of, parts_of, bus_of}
 use Rattle.b1_serial_rest.specs.Rest.{BoxesRight, AtRest}
 use Rattle.b1_serial_rest.proofs.Own.{Parts, parts_at}
@@ -53,7 +53,7 @@ use Rattle.b1_serial_own.proofs.Visits.{destroys, Comes, ComesBy, destruction_do
 use Rattle.b1_serial_own.proofs.Holders.{list_rises, list_others, list_needs, stamp_alike}
 use Rattle.b1_serial_own.proofs.Destroys.{same_all, of_both, parts_read, collected, stamp, then_shown, then_is}
 use Rattle.b1_serial_own.proofs.DestroyBoxes.{boxes_then}
-use Rattle.b1_serial_own.proofs.Closed.{with_call, ended_shows, unchanged}
+use Rattle.b1_serial_own.proofs.Closed.{ended_shows, unchanged}
 use Rattle.b1_serial_own.proofs.FlushEnds.{flush_shows, flush_boxes}
 
 -- ---- the live nodes
