@@ -8,4 +8,6 @@ mod stepping;
 mod turn;
 
 pub use bus::Core;
+pub use ending::records;
+pub use making::{copy_opening, make_drivers, make_peers};
 pub use turn::Turn;

@@ -38,7 +38,7 @@ impl<Q: QueueKind, P: PoolKind> PeerState<Q, P> {
     }
 
     /// How many entries are queued.
-    fn waiting(&self) -> usize
+    pub fn waiting(&self) -> usize
         ensures { result ≡ length self.now.part.queue }
     {
         self.mail.len()

@@ -37,7 +37,7 @@ module _ (commands : List Command) (calls : List Call) where
         subst (λ before. Stands k before one) (sym (take_at calls (call ∷ []) k (sym last)))
         (subst (λ n. Stands n calls one) (sym last) (subst (Stands (length calls) calls) (sym same) new))
 
-    added : AllInPlace commands calls → Stands (length calls) calls call → AllInPlace commands (calls ++ call ∷ [])
+    pub added : AllInPlace commands calls → Stands (length calls) calls call → AllInPlace commands (calls ++ call ∷ [])
     added all new k one is = added_at all new k one (last_cases calls call k one is)
 
   -- an answer that is no call, or a call in its place

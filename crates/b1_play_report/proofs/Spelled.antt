@@ -15,9 +15,9 @@ use Rattle.b1_model.specs.declared.records.Record.{Record}
 use Rattle.b1_model.specs.declared.events.Doing.{Doing}
 use Rattle.b1_model.specs.Opening.{IsOpening}
 use Rattle.b1_model.specs.Script.{resolved, fits, ends_await, is_receipt, IsInPlace, commands_of}
-use Rattle.b1_model.specs.MachineParts.{PeerPart, DriverPart}
+use Rattle.b1_model.specs.MachineParts.{State, PeerPart, DriverPart}
 use Rattle.b1_model.specs.MachineTook.{is_waiting, as_call, call_of, answer_of, fixed_call, open_by, driver_calls}
-use Rattle.b1_model.specs.MachineStep.{peer_records, record_of_state}
+use Rattle.b1_model.specs.MachineStep.{Reached, peer_records, record_of_state}
 use Rattle.b1_step.specs.Rights.{Has}
 use Rattle.b1_step.proofs.Lists.{has_at, has_append}
 use Rattle.b1_inv.specs.Receipts.{NamesNode, NoticesNamed}
@@ -25,7 +25,7 @@ use Rattle.b1_inv_receipts.proofs.Turns.{fixed_names}
 use Rattle.b1_law.proofs.Reached.{reached_sound}
 use Rattle.b1_schedule.specs.Shortage.{Shortage, no_shortage, shortage_of}
 use Rattle.b1_schedule.specs.Schedule.{Finished, Stalled, Playing, moves, start_of, IsPlay, IsStall}
-use Rattle.b1_play_commands.specs.Following.{Follows}
+use Rattle.b1_play_commands.specs.Following.{Follows, AllFollow}
 use Rattle.b1_report.specs.Report.{IsAnswer, IsWritten, HasSpelling, EachSpelled}
 use Rattle.b1_play_report.specs.Limits.{IsNotLimit, NoLimits}
 use Rattle.b1_play_commands.proofs.Calls.{driver_follows}
@@ -141,13 +141,18 @@ commands_none [] p none = tt
 commands_none (commands ∷ rest) zero none = none.0
 commands_none (commands ∷ rest) (suc p) none = commands_none rest p none.1
 
+-- a reached state whose drivers follow their lists
+pub reached_spelled : (o : Opening) (lists : List (List Command)) (s : State) → IsOpening o → NoLimits lists → Reached o s → AllFollow lists s → EachSpelled (record_of_state s).peers
+reached_spelled o lists s valid none reached follow =
+    let sound = reached_sound o s valid reached in
+    records_spelled s.peers s.drivers
+    (λ p d is_driver. calls_spelled d (sound.receipts.named p d is_driver) (commands_of lists p) (commands_none lists p none) (follow p d is_driver))
+
 module _ (o : Opening) (lists : List (List Command)) (turns : List ℕ) (valid : IsOpening o) (none : NoLimits lists) where
   came_to : (m : Shortage) (count : ℕ) (end : Playing) → moves o lists m count (start_of o turns) ≡ end → EachSpelled (record_of_state end.state).peers
   came_to m count end is =
       let k = subst (Plays o lists) is (plays o lists m (λ s reached. reached_sound o s valid reached) turns count) in
-      let sound = reached_sound o end.state valid k.follow.reached in
-      records_spelled end.state.peers end.state.drivers
-      (λ p d is_driver. calls_spelled d (sound.receipts.named p d is_driver) (commands_of lists p) (commands_none lists p none) (k.follow.all p d is_driver))
+      reached_spelled o lists end.state valid none k.follow.reached k.follow.all
 
   pub played_spelled : (r : Record) → IsPlay o lists turns r → EachSpelled r.peers
   played_spelled r play = subst (λ z. EachSpelled z.peers) (sym play.record_is) (came_to (shortage_of r) play.comes.count (record { state = play.state; stage = Finished }) play.comes.is_at)

@@ -7,7 +7,7 @@ use Rattle.b1_model.specs.declared.limits.TheConstants.{CLOCK_LIMIT, MOST_FILE_P
 use Rattle.b1_model.specs.declared.naming.PeerSpec.{PeerSpec}
 use Rattle.b1_model.specs.declared.naming.Wire.{Wire}
 use Rattle.b1_model.specs.Opening.{from_owner, after_wire}
-use Rattle.b1_records.specs.Reading.{Read, Fault, fault_of, checked, many, number_at, long_number_at, zero_at, command_at}
+use Rattle.b1_records.specs.Reading.{◌>>=◌, Read, Fault, fault_of, checked, many, number_at, long_number_at, zero_at, command_at}
 use Rattle.b1_script.specs.declared.header.Header.{Header}
 use Rattle.b1_script.specs.declared.script.Script.{Script}
 

@@ -56,7 +56,7 @@ discards_shorten y (f ∷ rest) = by (discards_shorten y rest) (is_for_nobody y 
     by further false = omega arith
 
 -- a peer after an attempt
-abbrev tried : Part → Part
+abbrev pub tried : Part → Part
 tried x = if waits x then cleared x else received x
 
 -- a receive from a box that isn't empty takes its first entry
@@ -67,7 +67,7 @@ taken_shortens (f ∷ rest) y e =
     (ap (λ k. k.0) same, ap (λ k. suc (length k.1)) same)
 
 -- where the peer hasn't disconnected, an attempt leaves less in its box, or nothing
-tried_shortens : (n : ℕ) (x : Part) → x.shut ≡ false → length x.box ≤ suc n → ((tried x).shut ≡ false) × (length (tried x).box ≤ n)
+pub tried_shortens : (n : ℕ) (x : Part) → x.shut ≡ false → length x.box ≤ suc n → ((tried x).shut ≡ false) × (length (tried x).box ≤ n)
 tried_shortens n x connected few = by (waits x) refl
   where
     fewer : length (cleared x).box ≤ length x.box
@@ -93,7 +93,7 @@ times_empty (suc n) x connected few = let less = tried_shortens n x connected fe
 -- ---- a pass
 
 -- a peer after a pass
-abbrev passed : Part → Part
+abbrev pub passed : Part → Part
 passed x = if is_full x then received_times (length x.box) x else x
 
 empty_is : (shut : Bool) (box : List (Key × Entry)) → box ≡ [] → (not shut && not (is_empty box)) ≡ false

@@ -21,7 +21,7 @@ pub opening_late : (o : Opening) (q : ℕ) (x : PeerPart) → IsPeer (opening_st
 opening_late o = opening_each IsInTime made_in_time (λ node dest x late. late) (λ node x late. late) o (λ me spec. refl)
 
 -- no node is dying
-abbrev AreLiving : List NodePart → Type 0
+abbrev pub AreLiving : List NodePart → Type 0
 AreLiving nodes = (n : NodePart) → Has nodes n → is_dying n.state ≡ false
 
 with_one_more : (nodes : List NodePart) (m : NodePart) → is_dying m.state ≡ false → AreLiving nodes → AreLiving (nodes ++ m ∷ [])
@@ -30,7 +30,7 @@ with_one_more [] m fresh living n (inr none) = absurd none
 with_one_more (k ∷ rest) m fresh living n (inl is) = living n (inl is)
 with_one_more (k ∷ rest) m fresh living n (inr there) = with_one_more rest m fresh (λ z in_it. living z (inr in_it)) n there
 
-made_living : (peers number : ℕ) (nodes : List NodePart) → AreLiving nodes → AreLiving (with_made peers number nodes)
+pub made_living : (peers number : ℕ) (nodes : List NodePart) → AreLiving nodes → AreLiving (with_made peers number nodes)
 made_living peers number nodes living = by (serial_of number nodes)
   where
     by : (r : Option ℕ) → AreLiving (elim r [ None ↦ nodes ++ record { number = number; state = Live; counts = replicate peers 0; taken = false } ∷ [] | Some serial ↦ nodes ])

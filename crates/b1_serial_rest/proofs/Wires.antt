@@ -85,7 +85,7 @@ making_same number x = elim (is_own number) as (λ b. record (idle_part x) { nod
 ]
 
 -- counting a reference changes no number and no life
-nodes_counted : (serial dest : ℕ) (nodes : List NodePart) → map own_of (with_node serial (counted dest) nodes) ≡ map own_of nodes
+pub nodes_counted : (serial dest : ℕ) (nodes : List NodePart) → map own_of (with_node serial (counted dest) nodes) ≡ map own_of nodes
 nodes_counted serial dest [] = refl
 nodes_counted zero dest (n ∷ rest) = refl
 nodes_counted (suc serial) dest (n ∷ rest) = ap (λ ns. own_of n ∷ ns) (nodes_counted serial dest rest)
@@ -96,7 +96,7 @@ counted_same node dest x = ap (λ ns. record (idle_part x) { nodes = ns }) (node
 -- ---- names
 
 -- a number names the same node
-named_same : (number : ℕ) (x : PeerPart) → named.node_named (idle_part x) number ≡ tables.node_named x number
+pub named_same : (number : ℕ) (x : PeerPart) → named.node_named (idle_part x) number ≡ tables.node_named x number
 named_same number x =
     ap (λ r. cond (is_own number) (elim r [ None ↦ None | Some serial ↦ Some (record { owner = x.me; serial = serial }) ]) (named.held_node (idle_part x) number)) (serial_same number x.nodes)
     ∙ ap (λ r. cond (is_own number) (elim (tables.serial_of number x.nodes) [ None ↦ None | Some serial ↦ Some (record { owner = x.me; serial = serial }) ]) r) (lines_name number x.handles)

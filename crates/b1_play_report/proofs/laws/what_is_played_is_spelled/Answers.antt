@@ -1,4 +1,4 @@
-use Rattle.b1_play_report.proofs.Spelled.{played_spelled, stalled_spelled}
+use Rattle.b1_play_report.proofs.Spelled.{played_spelled, stalled_spelled, reached_spelled}
 use Rattle.b1_play_report.proofs.laws.what_is_played_is_spelled.Goals as goal
 
 pub returns-clause-played : goal.returns-clause-played
@@ -6,3 +6,6 @@ returns-clause-played c = λ o lists turns r valid none play. played_spelled o l
 
 pub returns-clause-stalled : goal.returns-clause-stalled
 returns-clause-stalled c = λ o lists turns waiting r valid none stall. stalled_spelled o lists turns valid none waiting r stall
+
+pub returns-clause-reached : goal.returns-clause-reached
+returns-clause-reached c = λ o lists s valid none reached follow. reached_spelled o lists s valid none reached follow
