@@ -1,5 +1,5 @@
 -- The machine within a command of one driver that owes nothing: its phase, and what each peer has become since the rest before.
-use Rattle.std.proofs.Common.{◌≡◌, ◌≢◌, ◌⊎◌, refl, sym, ap, ◌∙◌, subst, inl, inr, ℕ, zero, suc, ◌==◌, Bool, true, false, cond, List, [], ◌∷◌, ◌++◌, Option, Some, None, option_map}
+use Rattle.std.proofs.Common.{◌≡◌, ◌≢◌, refl, sym, ap, ◌∙◌, inl, inr, ℕ, zero, suc, ◌==◌, Bool, false, cond, [], ◌++◌, Option, Some, None, option_map}
 use Rattle.std.specs.Prelude.{slice_get}
 use Rattle.std.proofs.lemmas.Option.{same_Some}
 use Rattle.std.proofs.lemmas.Bool.{cases_eq, eq-eqb, ne_eqb}
@@ -9,12 +9,10 @@ use Rattle.b1_model.specs.declared.answers.Answer.{Answer}
 use Rattle.b1_model.specs.declared.events.Action.{Action}
 use Rattle.b1_model.specs.declared.events.Outcome.{Outcome}
 use Rattle.b1_model.specs.declared.events.Doing.{Doing}
-use Rattle.b1_model.specs.declared.events.OwedDrop.{OwedDrop}
 use Rattle.b1_model.specs.declared.events.Phase.{Phase}
-use Rattle.b1_model.specs.declared.events.Phase.TheVariants.{Starting}
 use Rattle.b1_model.specs.MachineParts.{PeerPart, DriverPart, State}
-use Rattle.b1_model.specs.MachineDriver.{Turn, Goes, Ends, turn, phase_action, next_action, peer_of}
-use Rattle.b1_model.specs.MachineTook.{owed_after, told_after, shut_after, with_facts, is_done, answer_of, call_of, goes_by, turned}
+use Rattle.b1_model.specs.MachineDriver.{Goes, Ends, turn, phase_action, next_action, peer_of}
+use Rattle.b1_model.specs.MachineTook.{owed_after, shut_after, with_facts, is_done, answer_of, call_of, goes_by, turned}
 use Rattle.b1_model.specs.MachineEvents.{happens}
 use Rattle.b1_model.specs.MachineStep.{Step, Reached}
 use Rattle.b1_step.proofs.Steps.{reached_more}
@@ -22,7 +20,7 @@ use Rattle.b1_step.proofs.Locality.{own_driver, other_driver, at_peer, other_pee
 use Rattle.b1_inv.specs.Words.{IsPeer, IsDriver}
 use Rattle.b1_inv_tools.proofs.Facts.{next_of}
 use Rattle.b1_serial_whole.proofs.Whole.{GoesOn}
-use Rattle.b1_serial_own.proofs.Moved.{Moved, moved_at, moved_driver, moved_peer, begin_moved, further_moved, no_further}
+use Rattle.b1_serial_own.proofs.Moved.{Moved, moved_at, moved_driver, moved_peer, further_moved, no_further}
 
 -- what each peer has become
 abbrev pub Become : Type 0

@@ -1,5 +1,5 @@
 -- The handles of a message arrive at a peer of the machine as at a peer of the serial bus, where no record of theirs is dead.
-use Rattle.std.proofs.Common.{◌≡◌, ◌≢◌, refl, sym, ap, ◌∙◌, subst, inl, inr, ℕ, zero, suc, ◌+◌, ◌-◌, ◌<◌, ◌≤◌, ◌==◌, Bool, true, false, cond, not, List, [], ◌∷◌, ◌++◌, map, fold, zip, get_or, Option, Some, None, is_some, option_map, unwrap_or, arith}
+use Rattle.std.proofs.Common.{◌≡◌, refl, sym, ap, ◌∙◌, subst, inl, inr, ℕ, zero, suc, ◌+◌, ◌<◌, ◌≤◌, ◌==◌, Bool, true, false, cond, List, [], ◌∷◌, ◌++◌, map, fold, zip, get_or, Option, Some, None, is_some, option_map, unwrap_or, arith}
 use Rattle.std.specs.Prelude.{slice_get}
 use Rattle.std.proofs.lemmas.Bool.{ne_eqb}
 use Rattle.b1_model.specs.declared.naming.NodeRef.{NodeRef}
@@ -7,18 +7,17 @@ use Rattle.b1_model.specs.declared.parts.Slot.{Slot}
 use Rattle.b1_model.specs.declared.parts.Slot.TheVariants as slot
 use Rattle.b1_model.specs.Names.{invalid}
 use Rattle.b1_model.specs.MachineParts.{PeerPart, DriverPart, NodePart, HandleRecord, same_ref, record_of, record_or_none, no_node, node_at}
-use Rattle.b1_model.specs.MachineTables.{changed, changed_or_made, more_held, less_flight, next_number, foreign, unexpected}
+use Rattle.b1_model.specs.MachineTables.{changed, changed_or_made, more_held, less_flight, next_number, foreign}
 use Rattle.b1_model.specs.MachineReceive as machine
 use Rattle.b1_model.specs.MachineReceive.{reference_by, slot_arrives}
 use Rattle.b1_step.specs.Rights.{Has}
 use Rattle.b1_step.specs.Ordered.{Rising}
 use Rattle.b1_step.proofs.Orders.{same_ref_itself}
-use Rattle.b1_step.proofs.Lookups.{rising_changed}
 use Rattle.b1_inv.specs.Numbers.{AreNumbered}
-use Rattle.b1_inv.specs.References.{AreFilled, times_in}
-use Rattle.b1_inv_refs.proofs.Views.{Handles, or_none, times_cons, rising_unexpected}
+use Rattle.b1_inv.specs.References.{AreFilled}
+use Rattle.b1_inv_refs.proofs.Views.{Handles, or_none, times_cons}
 use Rattle.b1_inv_refs.proofs.GivenUp.{found_has}
-use Rattle.b1_inv_refs.proofs.Numbered.{given_then, numbers_come}
+use Rattle.b1_inv_refs.proofs.Numbered.{numbers_come}
 use Rattle.b1_inv_refs.proofs.Arrivals.{flight_in, slot_flight, slot_rising, slot_rest, InFlight}
 use Rattle.b1_serial_bus.specs.Parts.{HeldLine, Part}
 use Rattle.b1_serial_bus.specs.Named.{line_of}

@@ -1,5 +1,5 @@
 -- The serial bus behind the end of a command, by what the peers have become.
-use Rattle.std.proofs.Common.{◌≡◌, ◌≢◌, ◌⊎◌, refl, sym, ap, ◌∙◌, inl, inr, ℕ, Bool, List, [], ◌∷◌, ◌++◌, Option, Some, None, option_map}
+use Rattle.std.proofs.Common.{◌≡◌, ◌≢◌, refl, sym, ap, ◌∙◌, inl, inr, ℕ, List, ◌++◌, Option, Some, None, option_map}
 use Rattle.std.specs.Prelude.{slice_get}
 use Rattle.std.proofs.lemmas.Bool.{cases_eq}
 use Rattle.b1_model.specs.declared.naming.Opening.{Opening}
@@ -8,7 +8,7 @@ use Rattle.b1_model.specs.declared.answers.Answer.{Answer}
 use Rattle.b1_model.specs.MachineParts.{PeerPart, DriverPart, State}
 use Rattle.b1_model.specs.MachineTook.{call_of}
 use Rattle.b1_inv.specs.Words.{IsPeer, IsDriver}
-use Rattle.b1_serial_bus.specs.Parts.{Part, Bus, at_peer}
+use Rattle.b1_serial_bus.specs.Parts.{Part, at_peer}
 use Rattle.b1_serial_rest.specs.Standing.{part_of, parts_of, bus_of}
 use Rattle.b1_serial_own.proofs.Shows.{read_at, read_beside}
 use Rattle.b1_serial_own.proofs.Amid.{Become, Ended}

@@ -1,11 +1,9 @@
 -- A whole NODES_DESTROY leads from rest to rest.
-use Rattle.std.proofs.Common.{◌≡◌, ◌≢◌, ◌⊎◌, refl, sym, ap, ◌∙◌, subst, inl, inr, ℕ, zero, suc, ◌<◌, ◌≤◌, ◌==◌, max, Bool, true, false, cond, ◌||◌, not, nat_lt, nat_le, List, [], ◌∷◌, ◌++◌, map, fold, find, filter_map, length, get_or, Option, Some, None, Err, is_none, option_map, arith}
+use Rattle.std.proofs.Common.{◌≡◌, refl, sym, ap, ◌∙◌, subst, inl, inr, ℕ, ◌<◌, ◌==◌, Bool, true, false, cond, List, [], ◌∷◌, map, find, filter_map, length, Option, Some, None, Err, is_none, option_map, arith}
 use Rattle.std.specs.Prelude.{slice_get}
 use Rattle.std.specs.Bool.{then_some}
 use Rattle.std.specs.List.{cons_option}
 use Rattle.std.proofs.lemmas.Option.{same_Some}
-use Rattle.std.proofs.lemmas.Bool.{cases_eq, cases_lt, eq-eqb, ne_eqb, false_from_ne_true}
-use Rattle.std.proofs.lemmas.List.{get_or_past}
 use Rattle.std.proofs.lemmas.List.Quantifiers.{position-Some}
 use Rattle.b1_model.specs.declared.naming.Opening.{Opening}
 use Rattle.b1_model.specs.Opening.{IsOpening}
@@ -23,13 +21,12 @@ use Rattle.b1_model.specs.MachineTables as tables
 use Rattle.b1_model.specs.MachineSend.{first_reason}
 use Rattle.b1_model.specs.MachineDestroy as machine
 use Rattle.b1_model.specs.MachineDestroy.{is_bad_destroy, destroy_refusal, destroy_serials, visit_set, is_not_live}
-use Rattle.b1_model.specs.MachineDriver.{first_action, refused_at}
-use Rattle.b1_model.specs.MachineEvents.{begin_refusal, begin_serials, destroy_by}
-use Rattle.b1_model.specs.MachineStep.{Step, Reached}
+use Rattle.b1_model.specs.MachineDriver.{refused_at}
+use Rattle.b1_model.specs.MachineEvents.{destroy_by}
+use Rattle.b1_model.specs.MachineStep.{Reached}
 use Rattle.b1_schedule.specs.Shortage.{Shortage}
 use Rattle.b1_step.specs.Rights.{Has}
 use Rattle.b1_step.proofs.Lists.{has_within}
-use Rattle.b1_inv.specs.Words.{IsPeer, IsDriver}
 use Rattle.b1_inv.specs.Notices.{Apart}
 use Rattle.b1_inv.specs.Sound.{IsSound}
 use Rattle.b1_inv_record.specs.Right.{IsRight}
@@ -38,15 +35,14 @@ use Rattle.b1_inv_doomed.proofs.Named.{accepted_some}
 use Rattle.b1_law.proofs.Reached.{reached_sound}
 use Rattle.b1_legal.proofs.Reached.{reached_right}
 use Rattle.b1_serial_bus.specs.Parts.{Part, Bus, at_peer, called}
-use Rattle.b1_serial_bus.specs.Named as named
 use Rattle.b1_serial_bus.specs.Lives.{destroyed_at}
 use Rattle.b1_serial_bus.specs.Destroy as bus_destroy
 use Rattle.b1_serial_bus.specs.Destroy.{destroy_reasons, destroy_done, destroy_named, after_destroy}
 use Rattle.b1_serial_bus.specs.Notices.{with_notices}
 use Rattle.b1_serial_bus.specs.Doom.{doom_stamp, with_all_doomed, destroyed}
 use Rattle.b1_serial_bus.specs.Commands.{after_command}
-use Rattle.b1_serial_rest.specs.Standing.{own_of, part_of, parts_of, bus_of}
-use Rattle.b1_serial_rest.specs.Rest.{BoxesRight, AtRest}
+use Rattle.b1_serial_rest.specs.Standing.{part_of, parts_of, bus_of}
+use Rattle.b1_serial_rest.specs.Rest.{AtRest}
 use Rattle.b1_serial_rest.proofs.Wires.{serial_same}
 use Rattle.b1_serial_rest.proofs.Own.{Parts, parts_at}
 use Rattle.b1_serial_whole.proofs.Whole.{Whole}
@@ -59,7 +55,7 @@ use Rattle.b1_serial_own.proofs.Visits.{destroys, EndsIn, destruction_done}
 use Rattle.b1_serial_own.proofs.Holders.{list_rises, list_others, list_needs, stamp_alike}
 use Rattle.b1_serial_own.proofs.Destroys.{collected, stamp, then_shown, then_is}
 use Rattle.b1_serial_own.proofs.DestroyBoxes.{boxes_then}
-use Rattle.b1_serial_own.proofs.Closed.{with_call, ended_shows, unchanged}
+use Rattle.b1_serial_own.proofs.Closed.{ended_shows, unchanged}
 
 -- ---- what numbers name
 

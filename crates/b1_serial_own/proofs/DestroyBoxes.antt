@@ -1,9 +1,9 @@
 -- The boxes of the serial bus are right behind a destruction.
-use Rattle.std.proofs.Common.{◌≡◌, ◌≢◌, ◌⊎◌, refl, sym, ap, ◌∙◌, subst, inl, inr, ℕ, zero, suc, ◌+◌, ◌<◌, ◌≤◌, ◌==◌, max, Bool, true, false, cond, ◌&&◌, ◌||◌, List, [], ◌∷◌, ◌++◌, map, fold, filter_map, zip, length, get_or, Option, Some, None, is_some, option_map, append-nil, arith}
+use Rattle.std.proofs.Common.{◌≡◌, ◌≢◌, ◌⊎◌, refl, sym, ap, ◌∙◌, subst, inl, inr, ℕ, zero, suc, ◌<◌, Bool, true, false, cond, ◌&&◌, ◌||◌, List, [], ◌∷◌, ◌++◌, map, filter_map, zip, length, Option, Some, None, is_some, option_map, arith}
 use Rattle.std.specs.Prelude.{slice_get}
 use Rattle.std.specs.List.{list_any}
 use Rattle.std.proofs.lemmas.Option.{same_Some, slice_get-map}
-use Rattle.std.proofs.lemmas.Bool.{cases_eq, and_parts, and_from, false_from_ne_true, true_from_ne_false}
+use Rattle.std.proofs.lemmas.Bool.{cases_eq, and_parts, and_from}
 use Rattle.b1_model.specs.declared.naming.Key.{Key}
 use Rattle.b1_model.specs.declared.naming.NodeRef.{NodeRef}
 use Rattle.b1_model.specs.declared.naming.Opening.{Opening}
@@ -16,7 +16,7 @@ use Rattle.b1_model.specs.MachineTables.{without}
 use Rattle.b1_model.specs.MachineReceive.{reference_of}
 use Rattle.b1_step.specs.Rights.{Has}
 use Rattle.b1_step.proofs.Lists.{has_append, has_left, has_right}
-use Rattle.b1_step.proofs.Orders.{same_ref_is, same_ref_itself}
+use Rattle.b1_step.proofs.Orders.{same_ref_itself}
 use Rattle.b1_step.proofs.Queues.{has_without}
 use Rattle.b1_inv.specs.Words.{IsPeer, IsDriver}
 use Rattle.b1_inv.specs.Sends.{IsFilled}
@@ -29,19 +29,19 @@ use Rattle.b1_inv_ends.proofs.Ending.{there_any}
 use Rattle.b1_serial_bus.specs.Parts.{OwnNode, Part, Bus, at_peer}
 use Rattle.b1_serial_bus.specs.Named.{line_of}
 use Rattle.b1_serial_bus.specs.Lives.{destroyed_at, destroyed_in}
-use Rattle.b1_serial_bus.specs.References.{boxed_references, has_slot, refers}
+use Rattle.b1_serial_bus.specs.References.{has_slot, refers}
 use Rattle.b1_serial_bus.specs.Notices.{node_of, refers_to_doomed, with_notices}
 use Rattle.b1_serial_bus.specs.Doom.{with_destroyed, with_all_doomed}
-use Rattle.b1_serial_rest.specs.Standing.{own_of, part_of, parts_of, bus_of}
+use Rattle.b1_serial_rest.specs.Standing.{own_of, part_of}
 use Rattle.b1_serial_rest.specs.Rest.{sent_to, is_notice_of, is_noticed_behind, BoxesRight, AtRest}
-use Rattle.b1_serial_rest.proofs.Own.{Parts, parts_at}
+use Rattle.b1_serial_rest.proofs.Own.{parts_at}
 use Rattle.b1_serial_own.proofs.Shows.{read_at, read_beside, part_there}
 use Rattle.b1_serial_own.proofs.BoxKept.{stamp_in}
 use Rattle.b1_serial_own.proofs.Safe.{filled_at}
 use Rattle.b1_serial_own.proofs.Notes.{key_at, AllBefore, notes, notes_has, note_there}
 use Rattle.b1_serial_own.proofs.Told.{foreign_note, notices_shown, notices_none}
 use Rattle.b1_serial_own.proofs.Doomed.{own_note, all_so, unreleased, unreleased_has, all_destroyed, owner_after}
-use Rattle.b1_serial_own.proofs.Holders.{none_own, list_has, greatest_has}
+use Rattle.b1_serial_own.proofs.Holders.{none_own, list_has}
 use Rattle.b1_serial_own.proofs.Destroys.{queue_before, stamp, own_doomed, clock_below}
 
 -- ---- nodes

@@ -1,16 +1,13 @@
 -- The peers behind a destruction are those of the serial bus behind it.
-use Rattle.std.proofs.Common.{◌≡◌, ◌≢◌, ◌⊎◌, refl, sym, ap, ◌∙◌, subst, inl, inr, ℕ, zero, suc, ◌+◌, ◌<◌, ◌≤◌, ◌==◌, ◌%◌, max, Bool, true, false, cond, List, [], ◌∷◌, ◌++◌, map, fold, get_or, length, Option, Some, None, option_map, arith}
+use Rattle.std.proofs.Common.{◌≡◌, ◌≢◌, refl, sym, ap, ◌∙◌, inl, inr, ℕ, zero, suc, ◌+◌, ◌<◌, ◌≤◌, max, Bool, true, false, cond, List, [], ◌∷◌, ◌++◌, map, fold, get_or, length, Option, Some, None, option_map, arith}
 use Rattle.std.specs.Prelude.{slice_get}
-use Rattle.std.specs.List.{list_any}
 use Rattle.std.proofs.lemmas.Option.{same_Some, slice_get-map}
 use Rattle.std.proofs.lemmas.Bool.{cases_eq, eq-eqb, ne_eqb, false_from_ne_true}
 use Rattle.b1_model.specs.declared.naming.Key.{Key}
-use Rattle.b1_model.specs.declared.naming.NodeRef.{NodeRef}
 use Rattle.b1_model.specs.declared.naming.Opening.{Opening}
 use Rattle.b1_model.specs.declared.parts.NodeState.{NodeState}
 use Rattle.b1_model.specs.declared.parts.NodeState.TheVariants.{Live, Dying, Destroyed}
-use Rattle.b1_model.specs.declared.entries.Entry.{Entry}
-use Rattle.b1_model.specs.MachineParts.{PeerPart, DriverPart, State, is_live, is_staged, is_odd, node_at, no_node}
+use Rattle.b1_model.specs.MachineParts.{PeerPart, DriverPart, State, is_live, is_odd, node_at, no_node}
 use Rattle.b1_model.specs.MachineSend.{synced, notices_committed}
 use Rattle.b1_model.specs.MachineDestroy.{visit_set, needs_notice, visited, doomed_part, doom_stamped}
 use Rattle.b1_step.specs.Rights.{Has}
@@ -25,15 +22,15 @@ use Rattle.b1_serial_bus.specs.Parts.{Part, Bus, at_peer}
 use Rattle.b1_serial_bus.specs.References.{refers}
 use Rattle.b1_serial_bus.specs.Notices.{node_of, refers_to_doomed, with_notices}
 use Rattle.b1_serial_bus.specs.Doom.{doom_stamp, with_all_doomed, destroyed}
-use Rattle.b1_serial_rest.specs.Standing.{stamp_of, part_of, parts_of, bus_of}
+use Rattle.b1_serial_rest.specs.Standing.{stamp_of, part_of, parts_of}
 use Rattle.b1_serial_rest.specs.Rest.{AtRest}
-use Rattle.b1_serial_whole.proofs.Quiet.{driver_beside, element_there}
+use Rattle.b1_serial_whole.proofs.Quiet.{driver_beside}
 use Rattle.b1_serial_own.proofs.Shows.{read_at, read_beside, part_there}
-use Rattle.b1_serial_own.proofs.Visits.{destroys, not_among, among_has}
-use Rattle.b1_serial_own.proofs.Notes.{Queue, key_at, AllBefore, notes, notes_same}
+use Rattle.b1_serial_own.proofs.Visits.{destroys, among_has}
+use Rattle.b1_serial_own.proofs.Notes.{key_at, AllBefore, notes, notes_same}
 use Rattle.b1_serial_own.proofs.Told.{foreign_note, told_shown, notices_shown, notices_none}
 use Rattle.b1_serial_own.proofs.Doomed.{owner_after, owner_shown, owner_doomed}
-use Rattle.b1_serial_own.proofs.Holders.{list, none_own, needs_all, list_others, list_has, list_refers, clock_of, greatest_has, stamp_alike}
+use Rattle.b1_serial_own.proofs.Holders.{none_own, needs_all, list_others, list_has, list_refers, greatest_has, stamp_alike}
 
 -- ---- lists that agree at every index
 

@@ -1,5 +1,5 @@
 -- The owner of destroyed nodes: its part of the machine behind the commits, and its peer of the serial bus.
-use Rattle.std.proofs.Common.{◌≡◌, ◌≢◌, ◌⊎◌, refl, sym, ap, ◌∙◌, subst, inl, inr, ℕ, zero, suc, ◌+◌, ◌<◌, ◌≤◌, max, Bool, true, false, cond, not, List, [], ◌∷◌, ◌++◌, map, filter, fold, get_or, length, Option, Some, None, append_assoc, append-nil, arith}
+use Rattle.std.proofs.Common.{◌≡◌, ◌⊎◌, refl, sym, ap, ◌∙◌, subst, inl, inr, ℕ, zero, suc, ◌+◌, max, Bool, true, false, not, List, [], ◌∷◌, ◌++◌, map, filter, fold, get_or, None, append_assoc, append-nil, arith}
 use Rattle.b1_model.specs.declared.naming.Key.{Key}
 use Rattle.b1_model.specs.declared.parts.NodeState.TheVariants.{Dying, Destroyed}
 use Rattle.b1_model.specs.declared.entries.Entry.{Entry}
@@ -10,7 +10,6 @@ use Rattle.b1_model.specs.MachineSend.{with_stamp, notices_committed}
 use Rattle.b1_model.specs.MachineDestroy.{with_own_notices, doomed_part, doom_stamped}
 use Rattle.b1_step.specs.Rights.{Has}
 use Rattle.b1_step.proofs.Lists.{map_set, has_append, has_left, has_right}
-use Rattle.b1_step.proofs.Orders.{key_trans}
 use Rattle.b1_step.proofs.Queues.{without_has}
 use Rattle.b1_inv_refs.proofs.Receipts.{read_view}
 use Rattle.b1_serial_bus.specs.Parts.{OwnNode, Part}

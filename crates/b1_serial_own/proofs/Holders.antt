@@ -1,9 +1,9 @@
 -- Whom a destruction tells: on the machine those whom its owner counts, on the serial bus those who refer to a node of it.
-use Rattle.std.proofs.Common.{◌≡◌, ◌≢◌, ◌⊎◌, refl, sym, ap, ◌∙◌, subst, inl, inr, ℕ, zero, suc, ◌+◌, ◌<◌, ◌≤◌, ◌==◌, ◌%◌, max, Bool, true, false, cond, ◌&&◌, ◌||◌, not, nat_lt, List, [], ◌∷◌, ◌++◌, map, filter, fold, length, get_or, zip, filter_map, sum_by, Option, Some, None, is_some, arith}
+use Rattle.std.proofs.Common.{◌≡◌, ◌≢◌, refl, sym, ap, ◌∙◌, subst, inl, inr, ℕ, zero, suc, ◌+◌, ◌<◌, ◌≤◌, max, Bool, true, false, cond, ◌||◌, not, nat_lt, List, [], ◌∷◌, map, filter, fold, length, zip, filter_map, Option, Some, None, is_some, arith}
 use Rattle.std.specs.Prelude.{slice_get}
 use Rattle.std.specs.List.{list_any, range_with_len}
 use Rattle.std.proofs.lemmas.Option.{slice_get_within, slice_get-get_or}
-use Rattle.std.proofs.lemmas.Bool.{cases_eq, ltb-false, or_parts, true_from_ne_false, false_from_ne_true}
+use Rattle.std.proofs.lemmas.Bool.{cases_eq, false_from_ne_true}
 use Rattle.std.proofs.lemmas.List.Sums.{sum_by-cons}
 use Rattle.b1_model.specs.declared.naming.Key.{Key}
 use Rattle.b1_model.specs.declared.naming.NodeRef.{NodeRef}
@@ -14,8 +14,8 @@ use Rattle.b1_model.specs.declared.parts.Slot.{Slot}
 use Rattle.b1_model.specs.declared.parts.Slot.TheVariants as slot
 use Rattle.b1_model.specs.declared.entries.Entry.{Entry}
 use Rattle.b1_model.specs.declared.entries.Entry.TheVariants.{Message, OwnNotice, ForeignNotice, ReleaseNotice}
-use Rattle.b1_model.specs.MachineParts.{PeerPart, DriverPart, HandleRecord, State, same_ref, is_live, is_data, is_staged, record_of, record_or_none, node_at, no_node, carried, slots_of}
-use Rattle.b1_model.specs.MachineTables.{count_of, is_needed}
+use Rattle.b1_model.specs.MachineParts.{PeerPart, DriverPart, HandleRecord, State, same_ref, is_live, record_of, record_or_none, node_at, no_node, carried}
+use Rattle.b1_model.specs.MachineTables.{count_of}
 use Rattle.b1_model.specs.MachineReceive.{reference_of}
 use Rattle.b1_model.specs.MachineDestroy.{visit_set, needs_notice}
 use Rattle.b1_step.specs.Rights.{Has}
@@ -24,7 +24,7 @@ use Rattle.b1_step.proofs.Orders.{same_ref_is}
 use Rattle.b1_inv.specs.Words.{IsPeer, IsDriver, IsMade}
 use Rattle.b1_inv.specs.Sends.{IsFilled}
 use Rattle.b1_inv.specs.Notices.{Rises}
-use Rattle.b1_inv.specs.References.{AreFilled, count_in, times_in, carried_times}
+use Rattle.b1_inv.specs.References.{AreFilled, times_in, carried_times}
 use Rattle.b1_inv.specs.Sound.{IsSound}
 use Rattle.b1_inv_notices.proofs.Sets.{range_has, rises_range, rises_filter}
 use Rattle.b1_inv_refs.proofs.Views.{or_none, times_cons}
@@ -37,14 +37,13 @@ use Rattle.b1_serial_bus.specs.Lives.{destroyed_in, destroyed_at}
 use Rattle.b1_serial_bus.specs.References.{boxed_references, refers}
 use Rattle.b1_serial_bus.specs.Notices.{node_of, refers_to_doomed}
 use Rattle.b1_serial_bus.specs.Doom.{doom_stamp}
-use Rattle.b1_serial_rest.specs.Standing.{stamp_of, part_of, parts_of, bus_of}
+use Rattle.b1_serial_rest.specs.Standing.{stamp_of, part_of, parts_of}
 use Rattle.b1_serial_rest.specs.Rest.{held_times, boxed_times, AtRest}
 use Rattle.b1_serial_rest.proofs.Records.{lines_held}
 use Rattle.b1_serial_whole.proofs.Quiet.{driver_beside, element_there}
 use Rattle.b1_serial_own.proofs.Shows.{part_there}
 use Rattle.b1_serial_own.proofs.Abroad.{above_sum, refers_counts, refers_counted}
 use Rattle.b1_serial_own.proofs.Dropped.{stamp_at}
-use Rattle.b1_serial_own.proofs.Safe.{zip_has, filled_at}
 
 -- ---- slots of one node
 

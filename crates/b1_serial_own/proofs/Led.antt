@@ -1,15 +1,12 @@
 -- What is so of a command's whole steps is so of the state to which a schedule runs it.
-use Rattle.std.proofs.Common.{◌≡◌, refl, sym, ap, ◌∙◌, subst, ℕ, Bool, true, false, cond, ◌||◌, Option, Some, None, is_none}
+use Rattle.std.proofs.Common.{◌≡◌, refl, sym, ap, ◌∙◌, subst, ℕ, Bool, true, false, cond, Option, Some, None, is_none}
 use Rattle.std.specs.Prelude.{slice_get}
 use Rattle.b1_model.specs.declared.naming.NodeRef.{NodeRef}
 use Rattle.b1_model.specs.declared.naming.Opening.{Opening}
 use Rattle.b1_model.specs.Opening.{IsOpening}
 use Rattle.b1_model.specs.declared.commands.Command.{Command}
 use Rattle.b1_model.specs.declared.commands.Command.TheVariants as cmd
-use Rattle.b1_model.specs.MachineParts.{PeerPart, DriverPart, State}
-use Rattle.b1_model.specs.MachineReceive as machine
-use Rattle.b1_model.specs.MachineTook.{call_of, is_waiting}
-use Rattle.b1_model.specs.MachineDriver.{recv_answer}
+use Rattle.b1_model.specs.MachineParts.{DriverPart, State}
 use Rattle.b1_model.specs.MachineStep.{Reached}
 use Rattle.b1_model.specs.Names.{is_given}
 use Rattle.b1_model.specs.Script.{resolved}
@@ -20,7 +17,7 @@ use Rattle.b1_serial_bus.specs.Named.{held_node}
 use Rattle.b1_serial_bus.specs.Commands.{after_command, after_command_of}
 use Rattle.b1_serial_rest.specs.Rest.{AtRest}
 use Rattle.b1_serial_rest.specs.Alone.{is_alone}
-use Rattle.b1_serial_rest.specs.Unheld.{releasable, is_unheld}
+use Rattle.b1_serial_rest.specs.Unheld.{releasable}
 use Rattle.b1_serial_rest.specs.Whole.{RunsWhole}
 use Rattle.b1_serial_rest.proofs.Own.{Parts, parts_at}
 use Rattle.b1_serial_rest.proofs.Kept.{rests}

@@ -28,3 +28,10 @@ pub mod Destroys
 pub mod DestroyBoxes
 pub mod Closed
 pub mod Destroy
+pub mod Drops
+pub mod Flushes
+pub mod Items
+pub mod GivenAll
+pub mod Emptied
+pub mod FlushEnds
+pub mod Reset

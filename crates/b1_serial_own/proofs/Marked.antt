@@ -1,6 +1,5 @@
 -- What changes of handle records do to their lines, where they keep numbers, raise them, or mark them.
-use Rattle.std.proofs.Common.{◌≡◌, ◌≢◌, refl, sym, ap, ◌∙◌, subst, inl, inr, ℕ, ◌+◌, ◌<◌, ◌≤◌, ◌==◌, Bool, true, false, cond, ◌||◌, nat_lt, List, [], ◌∷◌, ◌++◌, map, Option, Some, None, is_some, option_map, arith}
-use Rattle.std.proofs.lemmas.Bool.{ne_eqb}
+use Rattle.std.proofs.Common.{◌≡◌, refl, sym, ap, ◌∙◌, subst, inl, inr, ℕ, ◌≤◌, Bool, true, false, cond, nat_lt, List, [], ◌∷◌, map, Option, Some, None, is_some, option_map, arith}
 use Rattle.b1_model.specs.declared.naming.NodeRef.{NodeRef}
 use Rattle.b1_model.specs.MachineParts.{HandleRecord, same_ref, ref_before, record_of, record_or_none, no_record}
 use Rattle.b1_model.specs.MachineTables.{is_needed, changed, changed_or_made, more_held, less_flight, foreign, unexpected}
@@ -16,7 +15,7 @@ use Rattle.b1_serial_bus.specs.Parts.{HeldLine}
 use Rattle.b1_serial_bus.specs.Named.{line_of}
 use Rattle.b1_serial_bus.specs.Arrival.{made_dead}
 use Rattle.b1_serial_rest.specs.Standing.{line_under, put_line, with_line, lines_of}
-use Rattle.b1_serial_rest.proofs.Lines.{Lines, put_has}
+use Rattle.b1_serial_rest.proofs.Lines.{Lines}
 use Rattle.b1_serial_rest.proofs.Records.{lines_have}
 
 -- ---- a change that no line shows

@@ -1,18 +1,14 @@
 -- Notices that come to the end of a queue, staged or with their stamp.
-use Rattle.std.proofs.Common.{◌≡◌, ◌≢◌, ◌⊎◌, refl, sym, ap, ◌∙◌, subst, inl, inr, ℕ, zero, suc, ◌+◌, ◌<◌, ◌≤◌, ◌==◌, ◌%◌, Bool, true, false, cond, ◌&&◌, ◌||◌, not, nat_lt, List, [], ◌∷◌, ◌++◌, map, filter, append_assoc, append-nil, arith}
+use Rattle.std.proofs.Common.{◌≡◌, ◌⊎◌, refl, sym, ap, ◌∙◌, subst, inl, inr, ℕ, ◌+◌, ◌≤◌, ◌==◌, Bool, true, false, cond, ◌&&◌, ◌||◌, not, nat_lt, List, [], ◌∷◌, ◌++◌, map, filter, append-nil, arith}
 use Rattle.std.proofs.lemmas.Bool.{eq-eqb, lt-ltb}
 use Rattle.b1_model.specs.declared.naming.Key.{Key}
-use Rattle.b1_model.specs.declared.naming.NodeRef.{NodeRef}
 use Rattle.b1_model.specs.declared.entries.Entry.{Entry}
-use Rattle.b1_model.specs.declared.entries.Entry.TheVariants.{OwnNotice, ForeignNotice}
-use Rattle.b1_model.specs.MachineParts.{key_before, is_staged, is_data, is_odd, is_release_notice}
+use Rattle.b1_model.specs.MachineParts.{key_before, is_staged, is_data, is_odd}
 use Rattle.b1_model.specs.MachineTables.{put, put_all, without, is_staged_notice}
 use Rattle.b1_model.specs.MachineSend.{with_stamp}
-use Rattle.b1_model.specs.Ledger.{is_below}
 use Rattle.b1_step.specs.Rights.{Has}
-use Rattle.b1_step.proofs.Lists.{has_append, has_left, has_right}
+use Rattle.b1_step.proofs.Lists.{has_append}
 use Rattle.b1_step.proofs.Orders.{key_trans, key_not_itself, key_before_is_below}
-use Rattle.b1_inv_entries.proofs.Behind.{before_stamp}
 
 abbrev pub Queue : Type 0
 Queue = List (Key × Entry)

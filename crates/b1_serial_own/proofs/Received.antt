@@ -1,33 +1,24 @@
 -- A whole RECV, or an AWAIT that doesn't wait, leads from rest to rest; so does an attempt that waits.
-use Rattle.std.proofs.Common.{◌≡◌, refl, sym, ap, ◌∙◌, subst, ℕ, Bool, true, false, cond, ◌&&◌, not, nat_lt, List, [], ◌∷◌, ◌++◌, length, Option, Some, None, Ok, Err, arith}
+use Rattle.std.proofs.Common.{◌≡◌, refl, sym, ap, ◌∙◌, subst, ℕ, true, false, cond, ◌&&◌, not, nat_lt, [], ◌∷◌, ◌++◌, length, Some, None}
 use Rattle.std.specs.Prelude.{slice_get}
-use Rattle.std.proofs.lemmas.Bool.{eqb-true, eqb-false}
+use Rattle.std.proofs.lemmas.Bool.{eqb-true}
 use Rattle.std.proofs.lemmas.List.{nil_from_length}
-use Rattle.b1_model.specs.declared.naming.Key.{Key}
 use Rattle.b1_model.specs.declared.naming.Opening.{Opening}
 use Rattle.b1_model.specs.Opening.{IsOpening}
-use Rattle.b1_model.specs.declared.entries.Entry.{Entry}
-use Rattle.b1_model.specs.declared.answers.Answer.TheVariants as ans
 use Rattle.b1_model.specs.declared.answers.Reason.TheVariants as reason
 use Rattle.b1_model.specs.declared.commands.Command.TheVariants as cmd
 use Rattle.b1_model.specs.MachineParts.{DriverPart, State}
-use Rattle.b1_model.specs.MachineReceive as machine
 use Rattle.b1_model.specs.MachineDriver.{refused_at}
-use Rattle.b1_model.specs.MachineTook.{call_of}
 use Rattle.b1_model.specs.MachineStep.{Reached}
 use Rattle.b1_schedule.specs.Shortage.{Shortage}
 use Rattle.b1_schedule.specs.Schedule.{removed_by}
 use Rattle.b1_inv.specs.Words.{IsDriver}
-use Rattle.b1_law.proofs.Reached.{reached_sound}
-use Rattle.b1_legal.proofs.Reached.{reached_right}
 use Rattle.b1_serial_bus.specs.Parts.{Part, Bus, at_peer}
 use Rattle.b1_serial_bus.specs.Receive.{is_empty, cleared, received, waits}
 use Rattle.b1_serial_bus.specs.Commands.{after_command}
-use Rattle.b1_serial_rest.specs.Standing.{part_of}
 use Rattle.b1_serial_rest.specs.Rest.{AtRest}
 use Rattle.b1_serial_rest.proofs.Own.{Parts, parts_at}
 use Rattle.b1_serial_whole.proofs.Whole.{Whole}
-use Rattle.b1_serial_own.proofs.Receives.{cleared_alike, something_left}
 use Rattle.b1_serial_own.proofs.Recv.{receive_rests, some_rests, attempt_rests, attempt_removed}
 
 module _ (o : Opening) (s : State) (bus : Bus) (p : ℕ) (y : Part) (m : Shortage) (t : State) (opens : IsOpening o) (reached : Reached o s) (rest : AtRest o s bus) (is : slice_get bus p ≡ Some y) (is_open : y.shut ≡ false) where

@@ -1,7 +1,6 @@
 -- In a state at rest a peer of the machine receives as its peer of the serial bus does.
-use Rattle.std.proofs.Common.{◌≡◌, ◌≢◌, ◌⊎◌, refl, sym, ap, ◌∙◌, subst, inl, inr, ℕ, zero, suc, ◌+◌, ◌<◌, ◌≤◌, ◌==◌, Bool, true, false, cond, ◌&&◌, not, nat_lt, List, [], ◌∷◌, ◌++◌, length, drop, get_or, map, fold, zip, Option, Some, None, Ok, Err, is_some, is_none, option_map, unwrap_or, take_while, append-nil, arith}
-use Rattle.std.specs.Prelude.{slice_get}
-use Rattle.std.proofs.lemmas.Bool.{eqb-true, eq-eqb, ne_eqb, ltb-true, ltb-false, and_parts, not-true, false_from_ne_true}
+use Rattle.std.proofs.Common.{◌≡◌, refl, sym, ap, ◌∙◌, subst, inl, inr, ℕ, ◌≤◌, ◌==◌, Bool, true, false, cond, ◌&&◌, not, nat_lt, List, [], ◌∷◌, ◌++◌, length, drop, get_or, map, fold, zip, Option, Some, None, Ok, Err, is_some, is_none, option_map, unwrap_or, take_while, append-nil, arith}
+use Rattle.std.proofs.lemmas.Bool.{eqb-true, eq-eqb, ne_eqb, ltb-true, ltb-false, and_parts, false_from_ne_true}
 use Rattle.std.proofs.lemmas.List.Sums.{take_while-cons}
 use Rattle.b1_model.specs.declared.naming.Key.{Key}
 use Rattle.b1_model.specs.declared.naming.NodeRef.{NodeRef}
@@ -12,20 +11,18 @@ use Rattle.b1_model.specs.declared.entries.Entry.{Entry}
 use Rattle.b1_model.specs.declared.entries.Entry.TheVariants.{Message, OwnNotice, ForeignNotice, ReleaseNotice}
 use Rattle.b1_model.specs.declared.answers.Receipt.{Receipt}
 use Rattle.b1_model.specs.declared.answers.Receipt.TheVariants as receipt
-use Rattle.b1_model.specs.declared.answers.Answer.TheVariants as ans
-use Rattle.b1_model.specs.declared.answers.Reason.TheVariants as reason
 use Rattle.b1_model.specs.declared.answers.Front.TheVariants.{Absent}
 use Rattle.b1_model.specs.declared.commands.Command.TheVariants as cmd
 use Rattle.b1_model.specs.Names.{invalid}
-use Rattle.b1_model.specs.MachineParts.{PeerPart, DriverPart, HandleRecord, State, same_ref, key_before, is_staged, is_data, record_or_none, node_at, no_node, carried, slots_of}
+use Rattle.b1_model.specs.MachineParts.{PeerPart, DriverPart, State, same_ref, key_before, is_staged, is_data, record_or_none, node_at, no_node, carried, slots_of}
 use Rattle.b1_model.specs.MachinePool.{published}
 use Rattle.b1_model.specs.MachineTables as tables
 use Rattle.b1_model.specs.MachineTables.{changed, with_node, notice_taken}
 use Rattle.b1_model.specs.MachineReceive as machine
 use Rattle.b1_model.specs.MachineReceive.{discards, discarded, slot_arrives, front_by, front_taken, received_part}
-use Rattle.b1_model.specs.MachineDriver.{recv_answer, refused_at}
+use Rattle.b1_model.specs.MachineDriver.{recv_answer}
 use Rattle.b1_step.specs.Rights.{Has}
-use Rattle.b1_step.specs.Ordered.{Rising, Behind, Ascending}
+use Rattle.b1_step.specs.Ordered.{Rising, Ascending}
 use Rattle.b1_step.proofs.Lists.{has_left, has_right, map_set}
 use Rattle.b1_step.proofs.Lookups.{rising_changed, other_changed}
 use Rattle.b1_step.proofs.Orders.{behind_has, same_ref_is}
@@ -41,8 +38,7 @@ use Rattle.b1_inv_refs.proofs.Arrivals.{flight_in, carried_cons, slots_rest, pas
 use Rattle.b1_inv_record.specs.Right.{IsRight}
 use Rattle.b1_serial_bus.specs.Parts.{HeldLine, Part, Bus, called}
 use Rattle.b1_serial_bus.specs.Named.{line_of}
-use Rattle.b1_serial_bus.specs.Lives.{own_number}
-use Rattle.b1_serial_bus.specs.Arrival.{Arriving, arrives, arrived, held_number, made_dead, taken_entry}
+use Rattle.b1_serial_bus.specs.Arrival.{arrived, held_number, made_dead, taken_entry}
 use Rattle.b1_serial_bus.specs.Receive.{is_for_nobody, without_discards, cleared, receipt_called, received_from, received}
 use Rattle.b1_serial_rest.specs.Standing.{own_of, part_of, lines_of}
 use Rattle.b1_serial_rest.specs.Rest.{AtRest}

@@ -1,9 +1,8 @@
 -- A whole RECV, and an attempt at AWAIT, lead from rest to rest.
-use Rattle.std.proofs.Common.{◌≡◌, ◌≢◌, refl, sym, ap, ◌∙◌, subst, inl, inr, ℕ, zero, suc, ◌==◌, Bool, true, false, cond, ◌&&◌, not, nat_lt, List, [], ◌∷◌, ◌++◌, length, Option, Some, None, Ok, Err, Result, if◌then◌else◌, append-nil, arith}
+use Rattle.std.proofs.Common.{◌≡◌, refl, sym, ap, ◌∙◌, subst, ℕ, ◌==◌, Bool, true, false, cond, not, nat_lt, List, [], ◌∷◌, ◌++◌, length, Option, Some, None, Ok, Err, Result, if◌then◌else◌, append-nil, arith}
 use Rattle.std.specs.Prelude.{slice_get}
 use Rattle.std.proofs.lemmas.Option.{same_Some}
 use Rattle.std.proofs.lemmas.Bool.{eqb-true, eqb-false, lt-ltb}
-use Rattle.std.proofs.lemmas.List.{nil_from_length}
 use Rattle.b1_model.specs.declared.naming.Key.{Key}
 use Rattle.b1_model.specs.declared.naming.Opening.{Opening}
 use Rattle.b1_model.specs.Opening.{IsOpening}
@@ -26,21 +25,20 @@ use Rattle.b1_model.specs.MachineParts.{PeerPart, DriverPart, State}
 use Rattle.b1_model.specs.MachineReceive as machine
 use Rattle.b1_model.specs.MachineReceive.{has_dead, received_part, discards}
 use Rattle.b1_model.specs.MachineDriver.{first_action, next_action, recv_answer, refused_at, turn}
-use Rattle.b1_model.specs.MachineTook.{as_call, is_await, call_of, is_waiting, is_done, goes_by, attempt_of, with_facts, turned}
+use Rattle.b1_model.specs.MachineTook.{as_call, is_await, call_of, is_waiting, is_done, goes_by, with_facts, turned}
 use Rattle.b1_model.specs.MachineStep.{Step, Reached}
 use Rattle.b1_schedule.specs.Shortage.{Shortage}
 use Rattle.b1_schedule.specs.Schedule.{removed_by}
 use Rattle.b1_step.specs.Ordered.{Ascending}
 use Rattle.b1_step.proofs.Locality.{own_driver}
-use Rattle.b1_inv.specs.Words.{IsPeer, IsDriver}
+use Rattle.b1_inv.specs.Words.{IsDriver}
 use Rattle.b1_inv.specs.Sound.{IsSound}
 use Rattle.b1_inv_record.specs.Right.{IsRight}
 use Rattle.b1_inv_tools.proofs.Facts.{next_of}
 use Rattle.b1_law.proofs.Reached.{reached_sound}
 use Rattle.b1_legal.proofs.Reached.{reached_right}
-use Rattle.b1_serial_bus.specs.Parts.{Part, Bus, at_peer, called}
-use Rattle.b1_serial_bus.specs.Receive.{is_empty, cleared, received, waits}
-use Rattle.b1_serial_bus.specs.Commands.{as_called, after_command}
+use Rattle.b1_serial_bus.specs.Parts.{Part, Bus, at_peer}
+use Rattle.b1_serial_bus.specs.Receive.{is_empty, cleared, received}
 use Rattle.b1_serial_rest.specs.Standing.{part_of, bus_of}
 use Rattle.b1_serial_rest.specs.Rest.{BoxesRight, AtRest}
 use Rattle.b1_serial_rest.proofs.Own.{Parts, parts_at}

@@ -1,5 +1,5 @@
 -- A schedule runs every command of one driver to its end, and so a whole command.
-use Rattle.std.proofs.Common.{◌≡◌, ◌≢◌, ◌⊎◌, refl, sym, ap, ◌∙◌, subst, inl, inr, ℕ, zero, suc, ◌+◌, ◌<◌, ◌≤◌, Bool, true, false, cond, List, [], ◌∷◌, length, get_or, All, Option, Some, None, is_some, arith}
+use Rattle.std.proofs.Common.{◌≡◌, ◌≢◌, ◌⊎◌, refl, sym, ap, ◌∙◌, subst, inl, inr, ℕ, zero, suc, ◌<◌, ◌≤◌, Bool, true, false, cond, List, [], ◌∷◌, length, get_or, All, Option, Some, None, is_some, arith}
 use Rattle.std.specs.Prelude.{slice_get}
 use Rattle.std.proofs.lemmas.Option.{same_Some, slice_get_within}
 use Rattle.std.proofs.lemmas.List.{get_or_past}
@@ -9,8 +9,6 @@ use Rattle.b1_model.specs.declared.naming.Opening.{Opening}
 use Rattle.b1_model.specs.Opening.{IsOpening}
 use Rattle.b1_model.specs.declared.commands.Command.{Command}
 use Rattle.b1_model.specs.declared.commands.Command.TheVariants as cmd
-use Rattle.b1_model.specs.declared.answers.Reason.{Reason}
-use Rattle.b1_model.specs.declared.events.Action.{Action}
 use Rattle.b1_model.specs.declared.events.Action.TheVariants as act
 use Rattle.b1_model.specs.declared.events.Doing.{Doing}
 use Rattle.b1_model.specs.declared.events.OwedDrop.{OwedDrop}
@@ -18,7 +16,7 @@ use Rattle.b1_model.specs.declared.events.Phase.{Phase}
 use Rattle.b1_model.specs.declared.events.Phase.TheVariants.{Starting, Staging, Unstaging, Attaching, Stamping, Syncing, Committing, Dropping, Reaping, Visiting, Dooming, SyncingNotices, CommittingOwn, CommittingNotices, Flushing}
 use Rattle.b1_model.specs.MachineParts.{PeerPart, DriverPart, State}
 use Rattle.b1_model.specs.MachineDriver.{no_ref, node_of_place, first_action, phase_action, next_action, peer_of}
-use Rattle.b1_model.specs.MachineStep.{begun, begun_by, aimed, target, effect, stepped, stepped_by, stepped_to, stepped_at, with_parts, Step, Reached}
+use Rattle.b1_model.specs.MachineStep.{begun, begun_by, aimed, effect, stepped, stepped_by, stepped_to, stepped_at, with_parts, Reached}
 use Rattle.b1_model.specs.Script.{resolved}
 use Rattle.b1_schedule.specs.Shortage.{Shortage, is_short}
 use Rattle.b1_schedule.specs.Schedule.{beginning, with_step}
@@ -26,12 +24,11 @@ use Rattle.b1_step.specs.Rights.{Has}
 use Rattle.b1_step.proofs.Lists.{has_within}
 use Rattle.b1_step.proofs.Steps.{step_of, reached_more}
 use Rattle.b1_step.proofs.Locality.{own_driver}
-use Rattle.b1_inv.specs.Words.{IsPeer, IsDriver, IsMade, is_accepted_place}
+use Rattle.b1_inv.specs.Words.{IsPeer, IsDriver, IsMade}
 use Rattle.b1_inv.specs.Sends.{SendShape}
 use Rattle.b1_inv.specs.Notices.{AreOthers, DestructionShape}
 use Rattle.b1_inv.specs.Sound.{IsSound}
-use Rattle.b1_inv_tools.proofs.Facts.{next_of, next_owed, accepted_within}
-use Rattle.b1_inv_tools.proofs.Leaves.{new_driver}
+use Rattle.b1_inv_tools.proofs.Facts.{next_of, next_owed}
 use Rattle.b1_law.proofs.Reached.{reached_sound}
 use Rattle.b1_progress.specs.Work.{work}
 use Rattle.b1_progress.proofs.Ends.{work_falls}

@@ -1,10 +1,9 @@
 -- In a state at rest what a box has of destroyed nodes is before their notices, so that a message that is taken finds no node
 -- whose notice was taken, and no dead record.
-use Rattle.std.proofs.Common.{◌≡◌, ◌≢◌, ◌⊎◌, refl, sym, ap, ◌∙◌, subst, inl, inr, ℕ, zero, suc, ◌<◌, ◌≤◌, ◌==◌, Bool, true, false, cond, ◌&&◌, List, [], ◌∷◌, length, get_or, zip, Option, Some, None, is_some, arith}
+use Rattle.std.proofs.Common.{◌≡◌, ◌⊎◌, refl, sym, ap, ◌∙◌, subst, inl, inr, ℕ, ◌<◌, ◌≤◌, true, false, ◌&&◌, List, [], ◌∷◌, length, zip, Option, Some, None, is_some}
 use Rattle.std.specs.Prelude.{slice_get}
-use Rattle.std.specs.List.{list_any}
 use Rattle.std.proofs.lemmas.Option.{slice_get-get_or}
-use Rattle.std.proofs.lemmas.Bool.{false_from_ne_true, and_parts, eqb-true, cases_lt}
+use Rattle.std.proofs.lemmas.Bool.{false_from_ne_true, and_parts, cases_lt}
 use Rattle.std.proofs.lemmas.List.{get_or_past}
 use Rattle.b1_model.specs.declared.naming.Key.{Key}
 use Rattle.b1_model.specs.declared.naming.NodeRef.{NodeRef}
@@ -15,9 +14,8 @@ use Rattle.b1_model.specs.declared.parts.Slot.{Slot}
 use Rattle.b1_model.specs.declared.parts.Slot.TheVariants as slot
 use Rattle.b1_model.specs.declared.entries.Entry.{Entry}
 use Rattle.b1_model.specs.declared.entries.Entry.TheVariants.{Message, OwnNotice, ForeignNotice, ReleaseNotice}
-use Rattle.b1_model.specs.MachineParts.{PeerPart, DriverPart, HandleRecord, State, same_ref, key_before, is_staged, is_data, is_destroyed, record_of, record_or_none, node_at, no_node, carried, slots_of}
+use Rattle.b1_model.specs.MachineParts.{PeerPart, DriverPart, HandleRecord, State, same_ref, key_before, is_data, is_destroyed, record_of, record_or_none, node_at, no_node, carried, slots_of}
 use Rattle.b1_step.specs.Rights.{Has}
-use Rattle.b1_step.specs.Ordered.{Ascending}
 use Rattle.b1_step.proofs.Lists.{has_all}
 use Rattle.b1_step.proofs.Orders.{key_trans, key_not_itself, same_ref_is}
 use Rattle.b1_inv.specs.Words.{IsPeer, IsDriver, IsMade}
@@ -29,9 +27,9 @@ use Rattle.b1_inv_refs.proofs.GivenUp.{found_has}
 use Rattle.b1_inv_refs.proofs.SameWires.{any_has}
 use Rattle.b1_inv_record.specs.Destructions.{doomed_key}
 use Rattle.b1_inv_record.specs.Right.{IsRight}
-use Rattle.b1_serial_bus.specs.Parts.{Part, Bus}
+use Rattle.b1_serial_bus.specs.Parts.{Bus}
 use Rattle.b1_serial_bus.specs.Lives.{destroyed_at, destroyed_in}
-use Rattle.b1_serial_rest.specs.Standing.{stamp_of, part_of, bus_of}
+use Rattle.b1_serial_rest.specs.Standing.{stamp_of, part_of}
 use Rattle.b1_serial_rest.specs.Rest.{sent_to, is_notice_of, is_noticed_behind, AtRest}
 use Rattle.b1_serial_whole.proofs.Quiet.{driver_beside}
 use Rattle.b1_serial_own.proofs.Shows.{part_there}

@@ -1,5 +1,5 @@
 -- A box of which the front leaves stays right.
-use Rattle.std.proofs.Common.{◌≡◌, ◌⊎◌, refl, sym, ap, ◌∙◌, subst, inl, inr, ℕ, Bool, true, false, cond, ◌&&◌, List, [], ◌∷◌, ◌++◌, fold, map, zip, is_some, append_assoc, ◌+◌}
+use Rattle.std.proofs.Common.{◌≡◌, ◌⊎◌, refl, sym, ap, ◌∙◌, subst, inl, inr, Bool, true, false, cond, ◌&&◌, List, [], ◌∷◌, ◌++◌, fold, map, zip, is_some, append_assoc, ◌+◌}
 use Rattle.std.specs.List.{list_any}
 use Rattle.std.proofs.lemmas.Bool.{and_parts}
 use Rattle.b1_model.specs.declared.naming.Key.{Key}
@@ -8,7 +8,6 @@ use Rattle.b1_model.specs.declared.parts.Slot.{Slot}
 use Rattle.b1_model.specs.declared.parts.Slot.TheVariants as slot
 use Rattle.b1_model.specs.declared.entries.Entry.{Entry}
 use Rattle.b1_model.specs.declared.entries.Entry.TheVariants.{Message, OwnNotice, ForeignNotice, ReleaseNotice}
-use Rattle.b1_model.specs.declared.answers.Receipt.{Receipt}
 use Rattle.b1_model.specs.MachineParts.{key_before}
 use Rattle.b1_model.specs.MachinePool.{published}
 use Rattle.b1_step.specs.Rights.{Has}
@@ -17,12 +16,12 @@ use Rattle.b1_step.proofs.Lists.{has_right, has_append}
 use Rattle.b1_step.proofs.Orders.{behind_has, key_trans, key_not_itself}
 use Rattle.b1_inv_refs.proofs.SameWires.{any_has}
 use Rattle.b1_inv_ends.proofs.Ending.{there_any}
-use Rattle.b1_serial_bus.specs.Parts.{OwnNode, Part}
+use Rattle.b1_serial_bus.specs.Parts.{Part}
 use Rattle.b1_serial_bus.specs.Named.{line_of}
 use Rattle.b1_serial_bus.specs.References.{raised, new_line, with_reference}
-use Rattle.b1_serial_bus.specs.Arrival.{Arriving, arrives, arrived, taken_entry}
+use Rattle.b1_serial_bus.specs.Arrival.{Arriving, arrives, taken_entry}
 use Rattle.b1_serial_bus.specs.Receive.{is_for_nobody, without_discards, cleared, received_from, received}
-use Rattle.b1_serial_rest.specs.Rest.{is_notice_of, is_noticed_behind}
+use Rattle.b1_serial_rest.specs.Rest.{is_notice_of}
 use Rattle.b1_serial_own.proofs.BoxKept.{BoxKept}
 
 -- what is in front of a queue has lesser keys

@@ -1,19 +1,18 @@
 -- The notices of a destruction at another peer: of the machine, where it is visited, synced and told, and of the serial bus.
-use Rattle.std.proofs.Common.{◌≡◌, ◌≢◌, ◌⊎◌, refl, sym, ap, ◌∙◌, subst, inl, inr, ℕ, zero, suc, ◌+◌, ◌<◌, ◌≤◌, ◌==◌, ◌%◌, max, Bool, true, false, cond, ◌&&◌, ◌||◌, not, List, [], ◌∷◌, ◌++◌, map, filter, Option, Some, None, is_some, append_assoc, append-nil, if◌then◌else◌, arith}
+use Rattle.std.proofs.Common.{◌≡◌, ◌≢◌, refl, sym, ap, ◌∙◌, subst, ℕ, ◌+◌, max, Bool, true, false, cond, ◌||◌, not, List, [], ◌∷◌, ◌++◌, map, filter, Some, None, is_some, append_assoc, append-nil, if◌then◌else◌, arith}
 use Rattle.std.specs.List.{list_any}
-use Rattle.std.proofs.lemmas.Bool.{eq-eqb, or_parts, false_from_ne_true}
+use Rattle.std.proofs.lemmas.Bool.{or_parts, false_from_ne_true}
 use Rattle.b1_model.specs.declared.naming.Key.{Key}
 use Rattle.b1_model.specs.declared.naming.NodeRef.{NodeRef}
 use Rattle.b1_model.specs.declared.entries.Entry.{Entry}
 use Rattle.b1_model.specs.declared.entries.Entry.TheVariants.{ForeignNotice}
-use Rattle.b1_model.specs.MachineParts.{PeerPart, DriverPart, HandleRecord, key_before, is_staged, is_odd, same_ref, record_of, record_or_none}
+use Rattle.b1_model.specs.MachineParts.{PeerPart, DriverPart, is_staged, is_odd, same_ref}
 use Rattle.b1_model.specs.MachineTables.{put, put_all, without, is_staged_notice, changed}
 use Rattle.b1_model.specs.MachineTables as tables
 use Rattle.b1_model.specs.MachineSend.{synced, with_stamp, notices_committed}
-use Rattle.b1_model.specs.MachineDestroy.{needs_notice, notice_by, with_foreign_notice, visited_from, visited}
+use Rattle.b1_model.specs.MachineDestroy.{needs_notice, notice_by, visited_from, visited}
 use Rattle.b1_step.specs.Rights.{Has}
-use Rattle.b1_step.specs.Ordered.{Rising}
-use Rattle.b1_step.proofs.Lookups.{rising_changed, other_changed}
+use Rattle.b1_step.proofs.Lookups.{other_changed}
 use Rattle.b1_step.proofs.Orders.{same_ref_is, key_trans}
 use Rattle.b1_step.proofs.Queues.{any_put}
 use Rattle.b1_inv.specs.Notices.{Apart}
@@ -22,8 +21,8 @@ use Rattle.b1_inv_refs.proofs.Numbered.{numbers_same}
 use Rattle.b1_serial_bus.specs.Parts.{Part, key_of}
 use Rattle.b1_serial_bus.specs.Named.{line_of}
 use Rattle.b1_serial_bus.specs.References.{has_slot, refers}
-use Rattle.b1_serial_bus.specs.Notices.{node_of, refers_to_doomed, with_notice, with_notices}
-use Rattle.b1_serial_rest.specs.Standing.{part_of, lines_of}
+use Rattle.b1_serial_bus.specs.Notices.{node_of, with_notice, with_notices}
+use Rattle.b1_serial_rest.specs.Standing.{part_of}
 use Rattle.b1_serial_own.proofs.Marked.{lines_kept}
 use Rattle.b1_serial_own.proofs.Notes.{Queue, key_at, AllBefore, put_last, before_more, notes, notes_same, index_behind}
 use Rattle.b1_serial_own.proofs.Notes as lists

@@ -1,28 +1,24 @@
 -- A destruction of one driver alone: its visits, its stamp, its syncs and its commits, and what each peer has become behind them.
-use Rattle.std.proofs.Common.{◌≡◌, ◌≢◌, ◌⊎◌, refl, sym, ap, ◌∙◌, subst, inl, inr, ℕ, zero, suc, ◌+◌, ◌<◌, ◌≤◌, ◌==◌, max, Bool, true, false, cond, ◌||◌, nat_lt, List, [], ◌∷◌, ◌++◌, length, get_or, drop, fold, Option, Some, None, Ok, Err, option_map, append-nil, append_assoc, if◌then◌else◌, arith}
+use Rattle.std.proofs.Common.{◌≡◌, ◌≢◌, ◌⊎◌, refl, sym, ap, ◌∙◌, subst, inl, inr, ℕ, ◌+◌, ◌<◌, ◌==◌, max, Bool, true, false, cond, ◌||◌, nat_lt, List, [], ◌∷◌, ◌++◌, length, get_or, fold, Option, Some, None, Ok, option_map, append-nil, append_assoc, if◌then◌else◌, arith}
 use Rattle.std.specs.Prelude.{⊤, slice_get}
 use Rattle.std.specs.List.{list_any}
 use Rattle.std.proofs.lemmas.Option.{same_Some}
-use Rattle.std.proofs.lemmas.Bool.{cases_eq, eq-eqb, ne_eqb, eqb-true, ltb-true, lt-ltb, le-ltb, false_from_ne_true}
+use Rattle.std.proofs.lemmas.Bool.{cases_eq, eq-eqb, ne_eqb, eqb-true, lt-ltb, le-ltb, false_from_ne_true}
 use Rattle.std.proofs.lemmas.List.{length_push}
 use Rattle.std.proofs.lemmas.List.Sums.{fold_push}
-use Rattle.b1_model.specs.declared.naming.NodeRef.{NodeRef}
 use Rattle.b1_model.specs.declared.naming.Opening.{Opening}
 use Rattle.b1_model.specs.declared.commands.Command.{Command}
 use Rattle.b1_model.specs.declared.parts.Visited.{Visited}
 use Rattle.b1_model.specs.declared.answers.Answer.{Answer}
 use Rattle.b1_model.specs.declared.answers.Answer.TheVariants as ans
-use Rattle.b1_model.specs.declared.answers.Reason.{Reason}
 use Rattle.b1_model.specs.declared.events.Action.TheVariants as act
-use Rattle.b1_model.specs.declared.events.Outcome.{Outcome}
 use Rattle.b1_model.specs.declared.events.Outcome.TheVariants as out
 use Rattle.b1_model.specs.declared.events.Destruction.{Destruction}
-use Rattle.b1_model.specs.declared.events.Doing.{Doing}
 use Rattle.b1_model.specs.declared.events.Phase.{Phase}
 use Rattle.b1_model.specs.declared.events.Phase.TheVariants.{Starting, Visiting, Dooming, SyncingNotices, CommittingOwn, CommittingNotices, Flushing}
 use Rattle.b1_model.specs.MachineParts.{PeerPart, DriverPart, State}
 use Rattle.b1_model.specs.MachineTables.{with_peer}
-use Rattle.b1_model.specs.MachineSend.{final_stamp, synced, notices_committed}
+use Rattle.b1_model.specs.MachineSend.{synced, notices_committed}
 use Rattle.b1_model.specs.MachineDestroy.{visit_set, doomed_part, needs_notice, visited, visit_answer, doom_answer, doom_stamped}
 use Rattle.b1_model.specs.MachineDriver.{Turn, Goes, Ends, turn, phase_action, first_action, visiting, with_visit, syncing_notices, committing_notices, is_flushing}
 use Rattle.b1_model.specs.MachineTook.{owed_after, is_done}
@@ -33,7 +29,7 @@ use Rattle.b1_inv.specs.Words.{IsPeer, IsDriver, is_among}
 use Rattle.b1_inv.specs.Notices.{AllAbove, Rises}
 use Rattle.b1_serial_whole.proofs.Whole.{GoesOn, Whole}
 use Rattle.b1_serial_own.proofs.Moved.{begin_moved}
-use Rattle.b1_serial_own.proofs.Amid.{Become, updated, Amid, Ended, recast, recast_end, advanced, Further, steps_on, advance, finish}
+use Rattle.b1_serial_own.proofs.Amid.{Become, updated, Amid, Ended, recast, recast_end, advanced, steps_on, advance, finish}
 
 -- ---- rising numbers
 

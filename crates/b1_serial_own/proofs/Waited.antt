@@ -1,5 +1,5 @@
 -- An AWAIT that waits is run to rest by a schedule.
-use Rattle.std.proofs.Common.{◌≡◌, sym, ap, ◌∙◌, ℕ, Bool, true, false, ◌&&◌, not, nat_lt, Some}
+use Rattle.std.proofs.Common.{◌≡◌, ℕ, true, not, nat_lt, Some}
 use Rattle.std.specs.Prelude.{slice_get}
 use Rattle.std.proofs.lemmas.Bool.{and_parts, not-true}
 use Rattle.b1_model.specs.declared.naming.Opening.{Opening}

@@ -4,6 +4,7 @@ ghost use Rattle.b1_model.specs.Opening.{IsOpening};
 ghost use Rattle.b1_model.specs.declared.commands.Command.{Command};
 ghost use Rattle.b1_model.specs.declared.commands.Command.TheVariants as cmd;
 ghost use Rattle.b1_model.specs.MachineParts.{DriverPart, State};
+ghost use Rattle.b1_model.specs.MachineDriver.{is_flushing};
 ghost use Rattle.b1_model.specs.MachineStep.{Reached};
 ghost use Rattle.b1_model.specs.Script.{resolved};
 ghost use Rattle.b1_schedule.specs.Shortage.{Shortage};
@@ -62,5 +63,14 @@ pub fn a_destruction_runs_to_rest()
         (numbers : List ℕ) (m : Shortage) → IsOpening o → Reached o s → AtRest o s bus
         → slice_get bus p ≡ Some y → y.shut ≡ false
         → resolved command y.calls ≡ cmd.Destroy numbers
+        → (t : State) × RunsWhole o m p command s t × AtRest o t (after_command_of m p command bus) }
+{}
+
+/// A PEER_RESET with flush, and a PEER_DISCONNECT, refused or accepted, is run whole by a schedule, and leads from rest to
+/// rest: the serial bus then is that after the command.
+pub fn a_reset_runs_to_rest()
+    ensures { (o : Opening) (s : State) (bus : Bus) (p : ℕ) (y : Part) (command : Command)
+        (m : Shortage) → IsOpening o → Reached o s → AtRest o s bus → slice_get bus p ≡ Some y
+        → y.shut ≡ false → is_flushing (resolved command y.calls) ≡ true
         → (t : State) × RunsWhole o m p command s t × AtRest o t (after_command_of m p command bus) }
 {}

@@ -8,5 +8,5 @@ mod laws;
 
 pub use laws::{
     a_destruction_runs_to_rest, a_receive_runs_to_rest, a_release_runs_to_rest,
-    a_small_command_runs_to_rest,
+    a_reset_runs_to_rest, a_small_command_runs_to_rest,
 };
