@@ -7,6 +7,7 @@ use Rattle.b1_model.specs.declared.commands.Command.TheVariants as cmd
 use Rattle.b1_model.specs.Opening.{IsOpening}
 use Rattle.b1_model.specs.MachineParts.{State}
 use Rattle.b1_model.specs.MachineStep.{Reached}
+use Rattle.b1_model.specs.MachineDriver.{is_flushing}
 use Rattle.b1_model.specs.Script.{resolved}
 use Rattle.b1_schedule.specs.Shortage.{Shortage}
 use Rattle.b1_serial_bus.specs.Parts.{Part, Bus}
@@ -19,6 +20,7 @@ use Rattle.b1_serial_own.proofs.Led.{led, led_as, alone_whole, release_whole}
 use Rattle.b1_serial_own.proofs.Received.{recv_whole, await_whole}
 use Rattle.b1_serial_own.proofs.Waited.{attempt_led}
 use Rattle.b1_serial_own.proofs.Destroy.{destroy_whole}
+use Rattle.b1_serial_own.proofs.Reset.{reset_whole}
 use Rattle.b1_serial_send.proofs.Runs.{runs}
 use Rattle.b1_serial_plays.specs.Commands.{CommandsKeepRest, Keeps, Waits}
 
@@ -39,8 +41,8 @@ module _ (o : Opening) (opens : IsOpening o) (m : Shortage) (s : State) (bus : B
   small_is : (command : Command) → y.shut ≡ false → is_small (resolved command y.calls) ≡ true → is_alone (resolved command y.calls) y ≡ true
   small_is command connected is_so = ap (λ b. b || is_small (resolved command y.calls)) connected ∙ is_so
 
-  flushes : (command : Command) → y.shut ≡ false → Keeps o m p command s bus
-  flushes command connected = ?
+  flushes : (command : Command) → y.shut ≡ false → is_flushing (resolved command y.calls) ≡ true → Keeps o m p command s bus
+  flushes command connected is_so = kept command (led o s bus p y command m opens reached rest is (λ t whole. reset_whole o s bus p y m t opens reached rest is connected (resolved command y.calls) is_so whole))
 
   by_command : (command : Command) → y.shut ≡ false → is_waiting command y ≡ false → Keeps o m p command s bus
   by_command (cmd.Send c) connected waits = kept (cmd.Send c) (runs opens reached rest m p y is connected (cmd.Send c) _ refl)
@@ -51,8 +53,8 @@ module _ (o : Opening) (opens : IsOpening o) (m : Shortage) (s : State) (bus : B
   by_command (cmd.SliceRelease offset) connected waits = small (cmd.SliceRelease offset) (small_is (cmd.SliceRelease offset) connected refl)
   by_command cmd.Query connected waits = small cmd.Query (small_is cmd.Query connected refl)
   by_command (cmd.Limit limits) connected waits = small (cmd.Limit limits) (small_is (cmd.Limit limits) connected refl)
-  by_command (cmd.Reset limits) connected waits = flushes (cmd.Reset limits) connected
-  by_command cmd.Disconnect connected waits = flushes cmd.Disconnect connected
+  by_command (cmd.Reset limits) connected waits = flushes (cmd.Reset limits) connected refl
+  by_command cmd.Disconnect connected waits = flushes cmd.Disconnect connected refl
 
   by_shut : (b : Bool) → y.shut ≡ b → (command : Command) → is_waiting command y ≡ false → Keeps o m p command s bus
   by_shut true is_shut command waits = shut command is_shut
