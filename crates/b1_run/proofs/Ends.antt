@@ -72,9 +72,9 @@ crew_from_each b (f ∷ fs) (spec ∷ specs) from long each =
 pub crew_at : (b : BusFace) (lists : List (List Command)) (ws : List Worker) → AreAt b lists ws → members (map (λ w. w.driver) ws) ≡ crew b
 crew_at b lists ws at_all = crew_from_each b (map (λ w. w.driver) ws) b.opening.peers 0 (length-map ws (λ (w : Worker). w.driver) ∙ at_all.as_many)
     (λ i f is.
-      let (w, at_worker, same) = map_at (λ (w : Worker). w.driver) ws i f is in
-      let k = at_all.each i w at_worker in
-      subst (λ g. IsOf g b × (g.own.part.me ≡ 0 + i)) same (k.on, omega (arith, k.number)))
+    let (w, at_worker, same) = map_at (λ (w : Worker). w.driver) ws i f is in
+    let k = at_all.each i w at_worker in
+    subst (λ g. IsOf g b × (g.own.part.me ≡ 0 + i)) same (k.on, omega (arith, k.number)))
 
 -- their own
 owns : (ws : List Worker) → map (λ f. f.own) (map (λ w. w.driver) ws) ≡ map (λ w. w.driver.own) ws
@@ -105,14 +105,14 @@ are_at b lists ws fs ds drivers all owned follow =
     record {
       as_many = sym (length-map ws (λ (w : Worker). w.driver)) ∙ ap length drivers ∙ k.as_many;
       each = λ p w is.
-        let here : slice_get fs p ≡ Some w.driver = ap (λ l. slice_get l p) (sym drivers) ∙ at_map (λ (v : Worker). v.driver) ws p w is in
-        let on = at _ fs k.each_of p w.driver here in
-        let number = k.numbered p w.driver here in
-        record {
-          on = record { table = on.table_is; opening = on.opening_is };
-          number = omega (arith, number);
-          follows = follow p w.driver.own (ap (λ l. slice_get l p) (sym owned) ∙ at_map (λ (f : DriverFace). f.own) fs p w.driver here);
-        };
+          let here : slice_get fs p ≡ Some w.driver = ap (λ l. slice_get l p) (sym drivers) ∙ at_map (λ (v : Worker). v.driver) ws p w is in
+          let on = at _ fs k.each_of p w.driver here in
+          let number = k.numbered p w.driver here in
+          record {
+            on = record { table = on.table_is; opening = on.opening_is };
+            number = omega (arith, number);
+            follows = follow p w.driver.own (ap (λ l. slice_get l p) (sym owned) ∙ at_map (λ (f : DriverFace). f.own) fs p w.driver here);
+          };
     }
 
 pub owned_by : (ws : List Worker) (fs : List DriverFace) (ds : List Driver) → map (λ w. w.driver) ws ≡ fs → map (λ f. f.own) fs ≡ ds → map (λ w. w.driver.own) ws ≡ ds
@@ -184,7 +184,7 @@ module _ (s : Script) (c : ClosedFace) (r : Record) (reached : Reached c.opening
         legal = subst (λ (o : Opening). Legal o r) at_end.closed.opening legal;
         whole = subst (Whole s.opening) (sym record_is) (whole s.opening t opening there drained);
         script = subst (follows.Script s.opening s.commands) (sym record_is)
-          (script_kept s.opening s.commands t (sound s.opening t opening there).numbered (all_follow s.commands c.peers c.drivers closed at_end.closed.follows) end);
+            (script_kept s.opening s.commands t (sound s.opening t opening there).numbered (all_follow s.commands c.peers c.drivers closed at_end.closed.follows) end);
       }
 
   pub stalled_is : (found waiting : List ℕ) → IsStuckAt s c found → waiting ≡ found → IsStalled s waiting r
@@ -198,5 +198,5 @@ module _ (s : Script) (c : ClosedFace) (r : Record) (reached : Reached c.opening
         record_is = record_is;
         legal = subst (λ (o : Opening). Legal o r) at_stall.closed.opening legal;
         in_place = λ p. subst (λ (z : Record). AllInPlace (commands_of s.commands p) (calls_of z p)) (sym record_is)
-          (recorded_in_place s.commands t p (all_follow s.commands c.peers c.drivers closed at_stall.closed.follows));
+            (recorded_in_place s.commands t p (all_follow s.commands c.peers c.drivers closed at_stall.closed.follows));
       }

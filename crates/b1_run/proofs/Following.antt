@@ -51,9 +51,9 @@ module _ (commands : List Command) (calls : List Call) (follows : AllInPlace com
         let same : Some call ≡ Some other = sym (get_last calls call) ∙ ap (slice_get (calls ++ call ∷ [])) (sym last) ∙ is in
         let whole : take k (calls ++ call ∷ []) ≡ calls = take_before calls call k (omega arith) ∙ take_all k calls (omega arith) in
         subst (λ l. IsInPlace l (slice_get commands k) (Some other)) (sym whole)
-          (subst (λ i. IsInPlace calls (slice_get commands i) (Some other)) (sym last)
-            (subst (λ o. IsInPlace calls (slice_get commands (length calls)) o) same here))
-    ]
+        (subst (λ i. IsInPlace calls (slice_get commands i) (Some other)) (sym last)
+        (subst (λ o. IsInPlace calls (slice_get commands (length calls)) o) same here))
+  ]
 
 -- ---- what ends an AWAIT
 
@@ -108,14 +108,14 @@ module _ (commands : List Command) (d e : DriverPart) (follows : AllInPlace comm
   pub next_follows : (c : Command) → slice_get commands (length d.calls) ≡ Some c → HasEnded d (resolved c d.calls) e → AllInPlace commands e.calls
   next_follows c is (inl (got, k)) =
       subst (AllInPlace commands) (sym k.calls) (in_place_more commands d.calls follows (record { command = as_call (resolved c d.calls); answer = got })
-        (subst (λ o. IsInPlace d.calls o (Some (record { command = as_call (resolved c d.calls); answer = got }))) (sym is) (called c d.calls d e got k)))
+      (subst (λ o. IsInPlace d.calls o (Some (record { command = as_call (resolved c d.calls); answer = got }))) (sym is) (called c d.calls d e got k)))
   next_follows c is (inr (await, front, removed, w)) = subst (AllInPlace commands) (sym w.calls) follows
 
   -- after an attempt behind the last command, of a driver that hasn't disconnected
   pub drain_follows : slice_get commands (length d.calls) ≡ None → d.shut ≡ false → HasEnded d cmd.Await e → AllInPlace commands e.calls
   drain_follows is there (inl (got, k)) =
       subst (AllInPlace commands) (sym k.calls) (in_place_more commands d.calls follows (record { command = cmd.Recv; answer = got })
-        (subst (λ o. IsInPlace d.calls o (Some (record { command = cmd.Recv; answer = got }))) (sym is) (refl, receipt_true got (k.shutdown ∙ there) (await_ends got k.kind.0 k.taken k.refused))))
+      (subst (λ o. IsInPlace d.calls o (Some (record { command = cmd.Recv; answer = got }))) (sym is) (refl, receipt_true got (k.shutdown ∙ there) (await_ends got k.kind.0 k.taken k.refused))))
   drain_follows is there (inr (await, front, removed, w)) = subst (AllInPlace commands) (sym w.calls) follows
 
 never_leaves : (got : Answer) → leaves cmd.Await got ≡ false

@@ -28,8 +28,9 @@ append_none (x ∷ xs) = ap (λ l. x ∷ l) (append_none xs)
 some_passes : (f : ℕ → Bool) (l : List ℕ) → (length (filter f l) == 0) ≡ false → (p : ℕ) × (f p ≡ true)
 some_passes f [] some = absurd (cc some)
 some_passes f (x ∷ l) some = elim (cases_Bool (f x)) [
-    inl passes ↦ (x, passes)
-  | inr fails ↦ some_passes f l (ap (λ b. length (cond b (x ∷ filter f l) (filter f l)) == 0) (sym fails) ∙ some) ]
+  | inl passes ↦ (x, passes)
+  | inr fails ↦ some_passes f l (ap (λ b. length (cond b (x ∷ filter f l) (filter f l)) == 0) (sym fails) ∙ some)
+]
 
 module _ (lists : List (List Command)) (s : State) where
   -- whether the commands of a peer are left
@@ -53,8 +54,9 @@ module _ (lists : List (List Command)) (s : State) where
 
   wait_more : (p : ℕ) → WaitBelow lists s p → WaitsAt p → WaitBelow lists s (p + 1)
   wait_more p old here q d x c short = elim (cases_lt q p) [
-      inl less ↦ old q d x c less
-    | inr least ↦ (let same : p ≡ q = omega arith in subst WaitsAt same here d x c) ]
+    | inl less ↦ old q d x c less
+    | inr least ↦ (let same : p ≡ q = omega arith in subst WaitsAt same here d x c)
+  ]
 
   module _ (p : ℕ) (d : DriverPart) (x : PeerPart) (driver : slice_get s.drivers p ≡ Some d) (peer : slice_get s.peers p ≡ Some x) where
     same_driver : (e : DriverPart) → slice_get s.drivers p ≡ Some e → d ≡ e
@@ -75,8 +77,8 @@ module _ (lists : List (List Command)) (s : State) where
     waits before after looked pushed next not_shut empty = record {
       found = pushed ∙ ap (λ l. l ++ p ∷ []) looked.found ∙ sym (found_more p true (left_at p d (Some cmd.Await) driver next));
       wait = wait_more p looked.wait (λ e y c is_e is_y there.
-        let both : Some c ≡ Some cmd.Await = sym there ∙ ap (next_command lists p) (sym (same_driver e is_e)) ∙ next in
-        (ap (λ f. f.shut) (sym (same_driver e is_e)) ∙ not_shut, cc both, ap (λ z. z.queue) (sym (same_peer y is_y)) ∙ empty));
+          let both : Some c ≡ Some cmd.Await = sym there ∙ ap (next_command lists p) (sym (same_driver e is_e)) ∙ next in
+          (ap (λ f. f.shut) (sym (same_driver e is_e)) ∙ not_shut, cc both, ap (λ z. z.queue) (sym (same_peer y is_y)) ∙ empty));
     }
 
   -- one of those that are left

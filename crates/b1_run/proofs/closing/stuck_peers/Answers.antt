@@ -30,11 +30,12 @@ loop-p-preserved c =
     let driver = driver_here xs ds p c.facts.ensures.as_many short in
     let peer = peer_here xs ds p c.facts.ensures.as_many short in
     elim c.match-standing_of.branch [
-      in-Ended w ↦ (let k = left.ended c.args.lists.now (state_of xs ds) p d x driver peer c.loop-p.waiting.items c.match-standing_of.waiting.items looked
-            (ap (λ v. v.items) w.waiting-is) (w.in-Ended.ensures d x driver peer) in record { found = k.found; wait = k.wait })
-    | in-Waiting+in_ok-push-in-Waiting w ↦ (let stands = w.in-Waiting.ensures d x driver peer in
-        let k = left.waits c.args.lists.now (state_of xs ds) p d x driver peer c.loop-p.waiting.items c.match-standing_of.waiting.items looked
-            (ap (λ v. v.items) w.waiting-is ∙ w.in_ok-push-in-Waiting.ensures.items) stands.0 stands.1 stands.2 in record { found = k.found; wait = k.wait }) ]
+      | in-Ended w ↦ (let k = left.ended c.args.lists.now (state_of xs ds) p d x driver peer c.loop-p.waiting.items c.match-standing_of.waiting.items looked
+          (ap (λ v. v.items) w.waiting-is) (w.in-Ended.ensures d x driver peer) in record { found = k.found; wait = k.wait })
+      | in-Waiting+in_ok-push-in-Waiting w ↦ (let stands = w.in-Waiting.ensures d x driver peer in
+          let k = left.waits c.args.lists.now (state_of xs ds) p d x driver peer c.loop-p.waiting.items c.match-standing_of.waiting.items looked
+          (ap (λ v. v.items) w.waiting-is ∙ w.in_ok-push-in-Waiting.ensures.items) stands.0 stands.1 stands.2 in record { found = k.found; wait = k.wait })
+    ]
 
 pub returns-clause-stuck : goal.returns-clause-stuck
 returns-clause-stuck c =
@@ -43,5 +44,5 @@ returns-clause-stuck c =
     let looked : left.Looked c.args.lists.now (state_of xs ds) c.loop-p.p c.loop-p.waiting.items = record { found = c.loop-p.invariant.found; wait = c.loop-p.invariant.wait } in
     let many : length (map (λ x. x.part) xs) ≡ length xs = length-map xs (λ (x : PeerSeen). x.part) in
     left.stuck c.args.lists.now (state_of xs ds) c.loop-p.p c.loop-p.waiting.items (is_closed c.args.lists.now xs ds c.facts.ensures.closed) looked
-      (omega (arith, many, c.loop-p-test.false, c.loop-p.auto.p-end, c.count-p-end.ensures))
-      (ap (λ n. n == 0) (sym c.loop-p.waiting.ok.0) ∙ sym c.if-is_empty.ensures)
+    (omega (arith, many, c.loop-p-test.false, c.loop-p.auto.p-end, c.count-p-end.ensures))
+    (ap (λ n. n == 0) (sym c.loop-p.waiting.ok.0) ∙ sym c.if-is_empty.ensures)

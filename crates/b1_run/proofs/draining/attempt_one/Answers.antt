@@ -16,4 +16,4 @@ returns-then-took-clause-at g c =
     let ended : length commands ≤ length before.own.part.calls = subst (λ (d : DriverFace). length commands ≤ length d.own.part.calls) (sym room.same) c.requires.ended in
     let there : before.own.part.shut ≡ false = subst (λ (d : DriverFace). d.own.part.shut ≡ false) (sym room.same) c.requires.there in
     still_at c.args.bus.now commands c.args._p before after at c.finish_command.ensures.member
-      (drain_follows commands before.own.part after.own.part at.follows (slice_get_past commands (length before.own.part.calls) ended) there c.finish_command.ensures.ended)
+    (drain_follows commands before.own.part after.own.part at.follows (slice_get_past commands (length before.own.part.calls) ended) there c.finish_command.ensures.ended)

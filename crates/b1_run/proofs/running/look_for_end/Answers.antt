@@ -9,7 +9,9 @@ returns-then-is_drained c = record {
 }
 
 pub returns : goal.returns
-returns c = (c.in_ok-reopen_site.ensures.site,
+returns c = (
+  c.in_ok-reopen_site.ensures.site,
   still_ended c.args.script.now.commands c.in_ok-reopen_site.field-0.workers.items c.in_ok-closed.closed.drivers
-    (ended_of c.args.script.now.commands c.args.site.workers.items c.in_ok-closed.closed.drivers c.requires.ended c.in_ok-closed.ensures.drivers)
-    c.in_ok-reopen_site.ensures.drivers)
+      (ended_of c.args.script.now.commands c.args.site.workers.items c.in_ok-closed.closed.drivers c.requires.ended c.in_ok-closed.ensures.drivers)
+      c.in_ok-reopen_site.ensures.drivers,
+)

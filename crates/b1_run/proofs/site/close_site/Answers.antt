@@ -14,10 +14,10 @@ pub returns-clause-closed : goal.returns-clause-closed
 returns-clause-closed c =
     let ws = c.args.site.workers.items in
     both_ok (λ (f : ClosedFace). f.opening ≡ c.args.site.bus.opening) (λ (f : ClosedFace). f.drivers ≡ map (λ (d : DriverFace). d.own) c.in_ok-drivers.drivers.items) (λ (f : ClosedFace). IsShutDown c.args._script.now f) c.close.result
-      (λ f opening drivers. record {
-        opening = opening ∙ c.requires.opening;
-        follows = follow_of c.args.site.bus c.args._script.now.commands ws f.drivers c.requires.are_at (drivers ∙ owns_of ws c.in_ok-drivers.drivers.items c.in_ok-drivers.ensures);
-      }) c.close.ensures.opening c.close.ensures.drivers
+    (λ f opening drivers. record {
+      opening = opening ∙ c.requires.opening;
+      follows = follow_of c.args.site.bus c.args._script.now.commands ws f.drivers c.requires.are_at (drivers ∙ owns_of ws c.in_ok-drivers.drivers.items c.in_ok-drivers.ensures);
+    }) c.close.ensures.opening c.close.ensures.drivers
 
 pub returns-clause-drivers : goal.returns-clause-drivers
 returns-clause-drivers c =

@@ -10,5 +10,5 @@ returns c =
     record {
       opening = c.in_ok-bus.ensures.opening;
       are_at = are_at c.in_ok-bus.bus c.args.script.now.commands c.in_ok-workers.workers.items fs (map (λ (f : DriverFace). f.own) fs) c.in_ok-workers.ensures c.in_ok-bus.ensures.members refl
-        (none_called c.args.script.now.commands c.args.script.now.opening.peers fs c.in_ok-bus.ensures.parts);
+          (none_called c.args.script.now.commands c.args.script.now.opening.peers fs c.in_ok-bus.ensures.parts);
     }

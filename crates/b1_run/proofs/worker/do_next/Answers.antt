@@ -20,9 +20,9 @@ returns-then-ended-clause-at g c =
     let left : length before.own.part.calls < length commands = subst (λ (d : DriverFace). length d.own.part.calls < length commands) (sym room.same) c.requires.left in
     let same : length c.calls-done.result.now ≡ length before.own.part.calls = ap length c.calls-done.ensures in
     let next : slice_get commands (length before.own.part.calls) ≡ Some c.index-commands-done.result =
-      slice_get_read commands (length commands) (length before.own.part.calls) c.index-commands-done.result refl left
-        (c.index-commands-done.is ∙ ap (λ (n : ℕ). get_or commands n c.index-commands-done.result) same) in
+    slice_get_read commands (length commands) (length before.own.part.calls) c.index-commands-done.result refl left
+    (c.index-commands-done.is ∙ ap (λ (n : ℕ). get_or commands n c.index-commands-done.result) same) in
     let command : c.in-Ok.command ≡ resolved c.index-commands-done.result before.own.part.calls = c.in-Ok.ensures ∙ ap (λ (l : List Call). resolved c.index-commands-done.result l) c.calls.ensures in
     let ended : HasEnded before.own.part (resolved c.index-commands-done.result before.own.part.calls) after.own.part = subst (λ (k : Command). HasEnded before.own.part k after.own.part) command c.finish_command.ensures.ended in
     still_at c.args.bus.now commands p before after at c.finish_command.ensures.member
-      (next_follows commands before.own.part after.own.part at.follows c.index-commands-done.result next ended)
+    (next_follows commands before.own.part after.own.part at.follows c.index-commands-done.result next ended)
