@@ -1,10 +1,10 @@
 -- The state of a closed bus whose drivers follow a script.
-use Rattle.std.proofs.Common.{◌≡◌, ◌≢◌, ℕ, zero, suc, ◌+◌, ◌==◌, ◌≤◌, ◌<◌, Bool, true, false, not, ◌&&◌, cond, List, [], ◌∷◌, ◌++◌, length, map, get_or, slice_get, Option, Some, None, is_none, refl, sym, ap, ◌∙◌, subst, inl, inr, arith}
+use Rattle.std.proofs.Common.{◌≡◌, ℕ, zero, suc, ◌+◌, ◌==◌, true, ◌&&◌, List, [], ◌∷◌, length, map, slice_get, Option, Some, None, is_none, refl, sym, ap, ◌∙◌, subst, arith}
 use Rattle.std.specs.Prelude.{All, IfOk, Result, Ok, Err}
-use Rattle.std.specs.List.{list_all, filter, range_with_len, AllByRecursion}
-use Rattle.std.proofs.lemmas.Bool.{cases_lt, eqb-true}
+use Rattle.std.specs.List.{list_all}
+use Rattle.std.proofs.lemmas.Bool.{eqb-true}
 use Rattle.std.proofs.lemmas.List.{length-map}
-use Rattle.std.proofs.lemmas.Option.{slice_get_within, slice_get_read, get_or_from_slice_get, slice_get_past}
+use Rattle.std.proofs.lemmas.Option.{slice_get_within, get_or_from_slice_get, slice_get_past}
 use Rattle.b1_model.specs.declared.naming.Opening.{Opening}
 use Rattle.b1_model.specs.declared.naming.PeerSpec.{PeerSpec}
 use Rattle.b1_model.specs.declared.commands.Command.{Command}
@@ -12,13 +12,12 @@ use Rattle.b1_model.specs.declared.records.Record.{Record}
 use Rattle.b1_model.specs.Opening.{IsOpening}
 use Rattle.b1_model.specs.Script.{commands_of}
 use Rattle.b1_model.specs.MachineParts.{PeerPart, DriverPart, State}
-use Rattle.b1_model.specs.MachineOrder.{Drained, DrainedOf, Stuck, next_command, no_command_open, is_idle}
+use Rattle.b1_model.specs.MachineOrder.{Drained, next_command, no_command_open, is_idle}
 use Rattle.b1_model.specs.Legal.{Legal, Whole}
 use Rattle.b1_model.specs.Names.{calls_of}
 use Rattle.b1_model.specs.Script as follows
 use Rattle.b1_model.specs.MachineStep.{idle_driver, idle_drivers, no_peer, record_of_state, Reached}
 use Rattle.b1_inv.specs.Sound.{IsSound}
-use Rattle.b1_inv.specs.Words.{IsDriver}
 use Rattle.b1_peer.specs.Seen.{PeerSeen}
 use Rattle.b1_driver.specs.Parts.{Driver}
 use Rattle.b1_play_commands.specs.Following.{AllInPlace, Follows, AllEnd}
@@ -29,10 +28,9 @@ use Rattle.b1_rule.specs.Rule.{state_of}
 use Rattle.b1_rule.proofs.Whole.{at_map, map_at}
 use Rattle.b1_locks.specs.Faces.{BusFace, ClosedFace, DriverFace, IsOf, members, crew, crew_from, part_at}
 use Rattle.b1_bus.specs.Seated.{driver_at}
-use Rattle.b1_bus.proofs.Crews.{is_crew, IsCrew, at}
-use Rattle.b1_run.specs.Standing.{QuietAt, EmptyAt, WaitBelow}
-use Rattle.b1_run.specs.Workers.{HasEnded, AllFollow, HaveEnded, IsAt, AreAt, AllEnded}
-use Rattle.b1_run.specs.Runs.{IsDone, IsStalled, IsDrainedAt, IsStuckAt, IsShutDown}
+use Rattle.b1_bus.proofs.Crews.{is_crew, at}
+use Rattle.b1_run.specs.Workers.{HasEnded, AllFollow, HaveEnded, AreAt, AllEnded}
+use Rattle.b1_run.specs.Runs.{IsDone, IsStalled, IsDrainedAt, IsStuckAt}
 use Rattle.b1_run.specs.declared.worker.Worker.{Worker}
 
 -- ---- parts

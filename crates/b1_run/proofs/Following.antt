@@ -1,7 +1,7 @@
 -- A driver that does the next command of a list, or receives behind the last one, follows the list.
-use Rattle.std.proofs.Common.{◌≡◌, ◌⊎◌, ℕ, zero, suc, ◌+◌, ◌≤◌, ◌<◌, ◌||◌, Bool, true, false, List, [], ◌∷◌, ◌++◌, length, take, slice_get, Option, Some, None, refl, sym, ap, ◌∙◌, subst, inl, inr, arith}
+use Rattle.std.proofs.Common.{◌≡◌, ◌⊎◌, ℕ, zero, suc, ◌+◌, ◌≤◌, ◌<◌, ◌||◌, true, false, List, [], ◌∷◌, ◌++◌, length, take, slice_get, Option, Some, None, refl, sym, ap, ◌∙◌, subst, inl, inr, arith}
 use Rattle.std.proofs.lemmas.Bool.{cases_lt}
-use Rattle.std.proofs.lemmas.List.{length-append, take-append-le, take_all}
+use Rattle.std.proofs.lemmas.List.{length-append, take_all}
 use Rattle.b1_model.specs.declared.commands.Command.{Command}
 use Rattle.b1_model.specs.declared.commands.Command.TheVariants as cmd
 use Rattle.b1_model.specs.declared.answers.Answer.{Answer}
@@ -13,8 +13,8 @@ use Rattle.b1_model.specs.Script.{resolved, fits, ends_await, is_receipt, IsCall
 use Rattle.b1_model.specs.MachineParts.{DriverPart}
 use Rattle.b1_model.specs.MachineTook.{as_call, is_waiting}
 use Rattle.b1_play_commands.specs.Following.{AllInPlace}
-use Rattle.b1_commands.specs.Done.{Called, Waited, HasEnded, RefusesRight, is_shutdown, leaves}
-use Rattle.b1_locks.specs.Faces.{BusFace, DriverFace, Member, IsOf, member}
+use Rattle.b1_commands.specs.Done.{Called, HasEnded, RefusesRight, is_shutdown, leaves}
+use Rattle.b1_locks.specs.Faces.{BusFace, DriverFace, Member, member}
 use Rattle.b1_run.specs.Workers.{IsAt, HasRoom}
 
 -- ---- one call more

@@ -3,14 +3,13 @@ use Rattle.std.proofs.Common.{◌≡◌, ◌≢◌, ℕ, zero, suc, ◌+◌, ◌
 use Rattle.std.specs.List.{filter, range_with_len}
 use Rattle.std.proofs.lemmas.Bool.{cases_lt, cases_Bool}
 use Rattle.std.proofs.lemmas.List.Elements.{filter-append}
-use Rattle.std.proofs.lemmas.Option.{slice_get_within, slice_get-get_or}
+use Rattle.std.proofs.lemmas.Option.{slice_get_within}
 use Rattle.b1_model.specs.declared.commands.Command.{Command}
 use Rattle.b1_model.specs.declared.commands.Command.TheVariants as cmd
 use Rattle.b1_model.specs.MachineParts.{PeerPart, DriverPart, State}
 use Rattle.b1_model.specs.MachineOrder.{Stuck, next_command, no_command_open}
 use Rattle.b1_schedule.specs.Schedule.{is_left}
-use Rattle.b1_run.specs.Standing.{StandsAt, WaitBelow}
-use Rattle.b1_run.specs.declared.closing.Standing.TheVariants as standing
+use Rattle.b1_run.specs.Standing.{WaitBelow}
 
 last : (a n j : ℕ) → a + n ≡ j → range_with_len a (suc n) ≡ range_with_len a n ++ j ∷ []
 last a zero j e = let same : a ≡ j = omega arith in ap (λ k. k ∷ []) same

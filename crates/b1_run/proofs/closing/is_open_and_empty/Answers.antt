@@ -1,4 +1,4 @@
-use Rattle.std.proofs.Common.{◌≡◌, ◌==◌, Bool, true, false, not, length, sym, ap, ◌∙◌, subst}
+use Rattle.std.proofs.Common.{◌==◌, length, sym, ap, ◌∙◌}
 use Rattle.b1_model.specs.MachineParts.{PeerPart, DriverPart}
 use Rattle.b1_run.proofs.Ends.{driver_is, peer_is, empty_queue}
 use Rattle.b1_run.proofs.closing.is_open_and_empty.Goals as goal

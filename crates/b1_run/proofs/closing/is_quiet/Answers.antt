@@ -1,6 +1,6 @@
-use Rattle.std.proofs.Common.{◌≡◌, ◌==◌, Bool, true, false, not, length, sym, ap, ◌∙◌, subst}
-use Rattle.b1_model.specs.MachineParts.{PeerPart, DriverPart}
-use Rattle.b1_run.proofs.Ends.{driver_is, peer_is, empty_queue}
+use Rattle.std.proofs.Common.{◌==◌, length, sym, ap, ◌∙◌}
+use Rattle.b1_model.specs.MachineParts.{PeerPart}
+use Rattle.b1_run.proofs.Ends.{peer_is, empty_queue}
 use Rattle.b1_run.proofs.closing.is_quiet.Goals as goal
 
 pub returns-else-is_shut : goal.returns-else-is_shut

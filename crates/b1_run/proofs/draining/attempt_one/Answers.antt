@@ -1,9 +1,9 @@
-use Rattle.std.proofs.Common.{◌≡◌, ℕ, ◌≤◌, Bool, true, false, length, slice_get, None, refl, sym, ap, ◌∙◌, subst, arith}
+use Rattle.std.proofs.Common.{◌≡◌, ◌≤◌, false, length, sym, subst}
 use Rattle.std.proofs.lemmas.Option.{slice_get_past}
 use Rattle.b1_model.specs.Script.{commands_of}
 use Rattle.b1_locks.specs.Faces.{DriverFace}
-use Rattle.b1_run.specs.Workers.{IsAt, HasRoom, MayHaveRoom}
-use Rattle.b1_run.proofs.Following.{drain_follows, drain_stays, room_at, still_at}
+use Rattle.b1_run.specs.Workers.{HasRoom, MayHaveRoom}
+use Rattle.b1_run.proofs.Following.{drain_follows, room_at, still_at}
 use Rattle.b1_run.proofs.draining.attempt_one.Goals as goal
 
 pub returns-then-took-clause-at : goal.returns-then-took-clause-at

@@ -1,7 +1,3 @@
-use Rattle.std.proofs.Common.{◌≡◌, refl, sym, ap, ◌∙◌, subst}
-use Rattle.b1_model.specs.declared.naming.Opening.{Opening}
-use Rattle.b1_model.specs.declared.records.Record.{Record}
-use Rattle.b1_run.specs.Runs.{IsDone}
 use Rattle.b1_run.proofs.Ends.{done_is}
 use Rattle.b1_run.proofs.running.done.Goals as goal
 

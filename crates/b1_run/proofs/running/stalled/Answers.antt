@@ -1,4 +1,3 @@
-use Rattle.std.proofs.Common.{◌≡◌, refl, sym, ap, ◌∙◌, subst}
 use Rattle.b1_run.proofs.Ends.{stalled_is}
 use Rattle.b1_run.proofs.running.stalled.Goals as goal
 

@@ -1,7 +1,5 @@
-use Rattle.std.proofs.Common.{◌≡◌, List, map, refl, sym, ap, ◌∙◌, subst}
-use Rattle.b1_model.specs.declared.naming.Opening.{Opening}
-use Rattle.b1_driver.specs.Parts.{Driver}
-use Rattle.b1_locks.specs.Faces.{ClosedFace, DriverFace, crew, members}
+use Rattle.std.proofs.Common.{◌≡◌, map, ap, ◌∙◌}
+use Rattle.b1_locks.specs.Faces.{ClosedFace, DriverFace, members}
 use Rattle.b1_bus.proofs.States.{if_ok}
 use Rattle.b1_run.specs.Runs.{IsShutDown}
 use Rattle.b1_run.proofs.Ends.{crew_at, owns_of, follow_of, both_ok}

@@ -1,5 +1,4 @@
-use Rattle.std.proofs.Common.{◌≡◌, List, map, refl, sym, ap, ◌∙◌, subst}
-use Rattle.b1_driver.specs.Parts.{Driver}
+use Rattle.std.proofs.Common.{map, refl}
 use Rattle.b1_locks.specs.Faces.{DriverFace}
 use Rattle.b1_run.proofs.Ends.{are_at, none_called}
 use Rattle.b1_run.proofs.site.open_site.Goals as goal

@@ -1,4 +1,4 @@
-use Rattle.std.proofs.Common.{◌≡◌, List, map, refl, sym, ap, ◌∙◌, subst}
+use Rattle.std.proofs.Common.{◌∙◌}
 use Rattle.b1_run.proofs.Ends.{are_at, owned_by}
 use Rattle.b1_run.proofs.site.reopen_site.Goals as goal
 

@@ -1,11 +1,11 @@
-use Rattle.std.proofs.Common.{◌≡◌, ℕ, ◌<◌, Bool, List, true, false, not, length, get_or, slice_get, Some, refl, sym, ap, ◌∙◌, subst, arith}
+use Rattle.std.proofs.Common.{◌≡◌, ℕ, ◌<◌, List, length, get_or, slice_get, Some, refl, sym, ap, ◌∙◌, subst}
 use Rattle.std.proofs.lemmas.Option.{slice_get_read}
 use Rattle.b1_model.specs.declared.commands.Command.{Command}
 use Rattle.b1_model.specs.declared.records.Call.{Call}
 use Rattle.b1_model.specs.Script.{resolved}
 use Rattle.b1_commands.specs.Done.{HasEnded}
 use Rattle.b1_locks.specs.Faces.{DriverFace}
-use Rattle.b1_run.specs.Workers.{IsAt, HasRoom, MayHaveRoom}
+use Rattle.b1_run.specs.Workers.{HasRoom, MayHaveRoom}
 use Rattle.b1_run.proofs.Following.{next_follows, room_at, still_at}
 use Rattle.b1_run.proofs.worker.do_next.Goals as goal
 
