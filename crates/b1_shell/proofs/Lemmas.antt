@@ -1,5 +1,8 @@
 -- What the functions' proofs cite: of scripts that are played, and of inputs.
-use Rattle.std.proofs.Common.{◌-◌, take, drop, ◌≡◌, refl, sym, subst, arith, ℕ, ◌+◌, ◌<◌, ◌≤◌, List, length, Option, Some, None, IfSome, lt-ltb}
+use Rattle.std.proofs.Common.{◌-◌, take, drop, ◌≡◌, ◌⊎◌, inl, inr, refl, sym, ap, ◌∙◌, subst, arith, ℕ, ◌+◌, ◌<◌, ◌≤◌, List, length, Option, Some, None, IfSome, lt-ltb}
+use Rattle.std.specs.Prelude.{[], ◌∷◌, codes}
+use Rattle.std.specs.Fmt.{decimal}
+use Rattle.std.proofs.lemmas.Fmt.{decimal_injective}
 use Rattle.std.proofs.lemmas.List.{length-drop, take_all}
 use Rattle.b1_errs.specs.declared.Cause.TheVariants as causes
 use Rattle.b1_errs.specs.declared.Cause.{Cause}
@@ -7,20 +10,24 @@ use Rattle.b1_errs.specs.declared.NotRead.{NotRead}
 use Rattle.b1_errs.specs.declared.NotRead.TheVariants as unread
 use Rattle.b1_io.specs.declared.wholes.NotAll.{NotAll}
 use Rattle.b1_io.specs.declared.wholes.NotAll.TheVariants.{Long}
-use Rattle.b1_io.specs.Streams.{TookSuch}
+use Rattle.b1_io.specs.Streams.{Took, TookSuch}
 use Rattle.b1_io.specs.Whole.{OnLong}
 use Rattle.b1_report.specs.Parsing as reports
 use Rattle.b1_script.specs.declared.script.Script.{Script}
 use Rattle.b1_script.specs.Reading.{bad, whole_at}
 use Rattle.b1_script.specs.Spelling.{IsScript}
 use Rattle.b1_shell.specs.declared.Said.{Said}
-use Rattle.b1_shell.specs.declared.Said.TheVariants.{Bad}
+use Rattle.b1_shell.specs.declared.Said.TheVariants.{Done, Bad, Stalled, Broken}
 use Rattle.b1_shell.specs.declared.forms.Form.{Form}
 use Rattle.b1_shell.specs.declared.forms.Form.TheVariants.{Play, Asm, Dump, Check}
-use Rattle.b1_shell.specs.Answers.{Says, IsSaid, TookPart}
+use Rattle.b1_shell.specs.Answers.{Says, TookText, TookPart, status}
+use Rattle.b1_shell.specs.Ends.{TellsInput}
+use Rattle.b1_shell.specs.Runs.{RunSays, SoakSays, TellsRun, TellsSoak}
+use Rattle.b1_shell.specs.Threads as threads
+use Rattle.b1_shell.specs.declared.threaded.Threaded.TheVariants.{Run, Soak}
 use Rattle.b1_shell.specs.Faults.{IsFault, long, report}
 use Rattle.b1_model.specs.declared.limits.TheConstants.{MOST_CHECKED, MOST_SCRIPT}
-use Rattle.b1_shell.specs.Forms.{most_input}
+use Rattle.b1_shell.specs.Forms.{Asks, most_input}
 use Rattle.b1_shell.specs.Texts.{bad_line}
 
 -- too many bytes are the first fault
@@ -64,6 +71,157 @@ report_fault input s end inner peers cause why few stands count is fault =
     report few s end inner stands (subst (λ (w : NotRead). reports.TellsFault (length s.opening.peers) (drop end input) w) is seen) refl
 
 -- a part of what is said of the held bytes was taken
-pub took_part : (form : Form) (said : Said) (left old new : Option (List ℕ)) (text shown : List ℕ) → shown ≡ text → TookSuch old new shown (λ n. n < length shown) → IfSome left (λ held. Says form held said text) → IfSome left (λ held. TookPart old new (IsSaid form held))
-took_part form said None old new text shown same took says = tt
-took_part form said (Some held) old new text shown same took says = (text, (said, says), subst (λ (t : List ℕ). TookSuch old new t (λ n. n < length t)) same took)
+took_part : (P : List ℕ → Said → List ℕ → Type 0) (said : Said) (held old new : Option (List ℕ)) (text : List ℕ) → TookSuch old new text (λ n. n < length text) → IfSome held (λ input. P input said text) → IfSome held (λ input. TookPart old new (λ t. (s : Said) × P input s t))
+took_part P said None old new text took says = tt
+took_part P said (Some input) old new text took says = (text, (said, says), took)
+
+-- ---- what was written, by the status
+
+done_of : (said : Said) → status said ≡ 0 → said ≡ Done
+done_of Done is = refl
+done_of Bad is = absurd (cc is)
+done_of Stalled is = absurd (cc is)
+done_of Broken is = absurd (cc is)
+
+bad_of : (said : Said) → status said ≡ 2 → said ≡ Bad
+bad_of Bad is = refl
+bad_of Done is = absurd (cc is)
+bad_of Stalled is = absurd (cc is)
+bad_of Broken is = absurd (cc is)
+
+stalled_of : (said : Said) → status said ≡ 3 → said ≡ Stalled
+stalled_of Stalled is = refl
+stalled_of Done is = absurd (cc is)
+stalled_of Bad is = absurd (cc is)
+stalled_of Broken is = absurd (cc is)
+
+broken_of : (said : Said) → status said ≡ 7 → said ≡ Broken
+broken_of Broken is = refl
+broken_of Done is = absurd (cc is)
+broken_of Bad is = absurd (cc is)
+broken_of Stalled is = absurd (cc is)
+
+-- what is said of an input was taken whole
+took_text : (P : List ℕ → List ℕ → Type 0) (held old new : Option (List ℕ)) (text : List ℕ) → Took old new text → IfSome held (λ input. P input text) → IfSome held (λ input. TookText old new (P input))
+took_text P None old new text took says = tt
+took_text P (Some input) old new text took says = (text, says, took)
+
+-- a text was written, or a part of it, and the status is that of what it says, or 5
+pub record Written (said : Said) (text : List ℕ) (old new : Option (List ℕ)) (r : ℕ) : Type 0 where
+  pub known : (r ≡ status said) ⊎ (r ≡ 5)
+  pub whole : (r ≡ 5 → ⊥) → Took old new text
+  pub part : r ≡ 5 → TookSuch old new text (λ n. n < length text)
+
+module _ {said : Said} {text : List ℕ} {old new : Option (List ℕ)} {r : ℕ} (written : Written said text old new r) where
+  status_is : (n : ℕ) → r ≡ n → (n ≡ 5 → ⊥) → status said ≡ n
+  status_is n is other = elim written.known [ inl e ↦ sym e ∙ is | inr e ↦ absurd (other (sym is ∙ e)) ]
+
+  -- by the kind of text
+  pub took_by : (P : List ℕ → Said → List ℕ → Type 0) (held : Option (List ℕ)) (n : ℕ) (kind : Said) → ((s : Said) → status s ≡ n → s ≡ kind) → (n ≡ 5 → ⊥) → r ≡ n → IfSome held (λ input. P input said text) → IfSome held (λ input. TookText old new (P input kind))
+  took_by P held n kind of other is says =
+      let same : said ≡ kind = of said (status_is n is other) in
+      took_text (λ input t. P input kind t) held old new text (written.whole (λ five. other (sym is ∙ five))) (subst (λ s. IfSome held (λ input. P input s text)) same says)
+
+  pub tells_input : (words : List (List ℕ)) (form : Form) → Asks words form → (held : Option (List ℕ)) → IfSome held (λ input. Says form input said text) → TellsInput words held old new r
+  tells_input words form asks held says = record {
+    done = λ is. record { form = form; asks = asks; holds = took_by (Says form) held 0 Done done_of (λ e. cc e) is says };
+    bad = λ is. record { form = form; asks = asks; holds = took_by (Says form) held 2 Bad bad_of (λ e. cc e) is says };
+    stalled = λ is. record { form = form; asks = asks; holds = took_by (Says form) held 3 Stalled stalled_of (λ e. cc e) is says };
+    broken = λ is. record { form = form; asks = asks; holds = took_by (Says form) held 7 Broken broken_of (λ e. cc e) is says };
+    part = λ five asked. record { form = form; asks = asks; holds = took_part (Says form) said held old new text (written.part five) says };
+  }
+
+  -- what `run` wrote
+  pub tells_run : (held left : Option (List ℕ)) → IfSome held (λ input. RunSays input said text) → (said ≡ Broken → ⊥)
+      → IfSome held (λ input. length input ≤ MOST_SCRIPT → left ≡ Some []) → (said ≡ Done → IfSome held (λ _. left ≡ Some [])) → (said ≡ Stalled → IfSome held (λ _. left ≡ Some []))
+      → TellsRun held left old new r
+  tells_run held left says unbroken end done_end stalled_end = record {
+    done = λ is. took_by RunSays held 0 Done done_of (λ e. cc e) is says;
+    bad = λ is. took_by RunSays held 2 Bad bad_of (λ e. cc e) is says;
+    stalled = λ is. took_by RunSays held 3 Stalled stalled_of (λ e. cc e) is says;
+    part = λ five. took_part RunSays said held old new text (written.part five) says;
+    read = λ which. elim which [ inl is ↦ done_end (done_of said (status_is 0 is (λ e. cc e))) | inr is ↦ stalled_end (stalled_of said (status_is 3 is (λ e. cc e))) ];
+    read_bad = λ is. end;
+    others = (λ is. no_status said (status_is 1 is (λ e. cc e)), λ is. unbroken (broken_of said (status_is 7 is (λ e. cc e))));
+  }
+    where
+      no_status : (s : Said) → status s ≡ 1 → ⊥
+      no_status Done is = cc is
+      no_status Bad is = cc is
+      no_status Stalled is = cc is
+      no_status Broken is = cc is
+
+  -- what `soak` wrote
+  pub tells_soak : (number : ℕ) → SoakSays number said text → TellsSoak number old new r
+  tells_soak number says = record {
+    done = λ is. whole_by 0 Done done_of (λ e. cc e) is;
+    stalled = λ is. whole_by 3 Stalled stalled_of (λ e. cc e) is;
+    part = λ five. (text, (said, says), written.part five);
+    others = (λ is. no_status said (status_is 1 is (λ e. cc e)), λ is. not_bad said says (status_is 2 is (λ e. cc e)), λ is. no_fault said (status_is 4 is (λ e. cc e)), λ is. not_broken said says (status_is 7 is (λ e. cc e)));
+  }
+    where
+      whole_by : (n : ℕ) (kind : Said) → ((s : Said) → status s ≡ n → s ≡ kind) → (n ≡ 5 → ⊥) → r ≡ n → TookText old new (SoakSays number kind)
+      whole_by n kind of other is = (text, subst (λ s. SoakSays number s text) (of said (status_is n is other)) says, written.whole (λ five. other (sym is ∙ five)))
+
+      no_status : (s : Said) → status s ≡ 1 → ⊥
+      no_status Done is = cc is
+      no_status Bad is = cc is
+      no_status Stalled is = cc is
+      no_status Broken is = cc is
+
+      no_fault : (s : Said) → status s ≡ 4 → ⊥
+      no_fault Done is = cc is
+      no_fault Bad is = cc is
+      no_fault Stalled is = cc is
+      no_fault Broken is = cc is
+
+      not_bad : (s : Said) → SoakSays number s text → status s ≡ 2 → ⊥
+      not_bad Bad says is = says
+      not_bad Done says is = cc is
+      not_bad Stalled says is = cc is
+      not_bad Broken says is = cc is
+
+      not_broken : (s : Said) → SoakSays number s text → status s ≡ 7 → ⊥
+      not_broken Broken says is = says
+      not_broken Done says is = cc is
+      not_broken Bad says is = cc is
+      not_broken Stalled says is = cc is
+
+-- ---- where nothing was written
+
+pub run_tells_nothing : (held left old new : Option (List ℕ)) (r : ℕ) → (r ≡ 4) ⊎ (r ≡ 6) → TellsRun held left old new r
+run_tells_nothing held left old new r which = record {
+  done = λ is. absurd (apart 0 (λ e. cc e) (λ e. cc e) is);
+  bad = λ is. absurd (apart 2 (λ e. cc e) (λ e. cc e) is);
+  stalled = λ is. absurd (apart 3 (λ e. cc e) (λ e. cc e) is);
+  part = λ is. absurd (apart 5 (λ e. cc e) (λ e. cc e) is);
+  read = λ w. absurd (elim w [ inl is ↦ apart 0 (λ e. cc e) (λ e. cc e) is | inr is ↦ apart 3 (λ e. cc e) (λ e. cc e) is ]);
+  read_bad = λ is. absurd (apart 2 (λ e. cc e) (λ e. cc e) is);
+  others = (λ is. apart 1 (λ e. cc e) (λ e. cc e) is, λ is. apart 7 (λ e. cc e) (λ e. cc e) is);
+}
+  where
+    apart : (n : ℕ) → (n ≡ 4 → ⊥) → (n ≡ 6 → ⊥) → r ≡ n → ⊥
+    apart n four six is = elim which [ inl e ↦ four (sym is ∙ e) | inr e ↦ six (sym is ∙ e) ]
+
+pub soak_tells_nothing : (number : ℕ) (old new : Option (List ℕ)) (r : ℕ) → r ≡ 6 → TellsSoak number old new r
+soak_tells_nothing number old new r six = record {
+  done = λ is. absurd (cc (is, six));
+  stalled = λ is. absurd (cc (is, six));
+  part = λ is. absurd (cc (is, six));
+  others = (λ is. cc (is, six), λ is. cc (is, six), λ is. cc (is, six), λ is. cc (is, six));
+}
+
+-- ---- words
+
+-- the words ask for one thing at most
+pub same_soak : (words : List (List ℕ)) (n k : ℕ) → threads.Asks words (Soak n) → threads.Asks words (Soak k) → n ≡ k
+same_soak words n k a b = decimal_injective n k (omega (arith, a.0)) (omega (arith, b.0)) (second (decimal n) (decimal k) (sym a.1 ∙ b.1))
+  where
+    second : (x y : List ℕ) → ◌≡◌ {A = List (List ℕ)} (codes "soak" ∷ x ∷ []) (codes "soak" ∷ y ∷ []) → x ≡ y
+    second x y e = cc e
+
+pub run_or_soak : (words : List (List ℕ)) (n : ℕ) → threads.Asks words Run → threads.Asks words (Soak n) → ⊥
+run_or_soak words n a b = lengths (ap length (sym a ∙ b.1))
+  where
+    lengths : 1 ≡ 2 → ⊥
+    lengths e = cc e

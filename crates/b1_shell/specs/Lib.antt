@@ -4,6 +4,8 @@ pub mod Faults
 pub mod Plays
 pub mod Answers
 pub mod Ends
+pub mod Threads
+pub mod Runs
 pub use Rattle.b1_io.specs.Streams
 pub use Rattle.b1_report.specs.Parsing
 pub use Rattle.b1_report.specs.Report

@@ -5,24 +5,35 @@ mod answer;
 mod checking;
 mod forms;
 mod lines;
+mod running;
 mod stalls;
 mod texts;
+mod threaded;
 
-ghost use Rattle.std.specs.Prelude.{◌≡◌, ◌≤◌, [], Some, length, IfOk, IfErr, IfSome};
-ghost use Rattle.b1_io.specs.Streams.{Rose};
+ghost use Rattle.std.specs.Prelude.{◌≡◌, ◌≢◌, ◌<◌, ◌≤◌, ◌⊎◌, ℕ, [], Some, length, IfOk, IfErr, IfSome};
+ghost use Rattle.b1_io.specs.Streams.{Rose, Took, TookSuch};
 ghost use Rattle.b1_shell.specs.Answers.{Says, status};
 ghost use Rattle.b1_shell.specs.Forms.{AsksNothing, most_input as most};
 ghost use Rattle.b1_shell.specs.Ends.{spelled, TellsUsage, TellsInput, ReadsToEnd};
+ghost use Rattle.b1_shell.specs.Runs.{TellsRun, TellsSoak};
+ghost use Rattle.b1_shell.specs.Threads as threads;
+ghost use Rattle.b1_shell.specs.declared.threaded.Threaded.TheVariants.{Run, Soak};
 ghost use Rattle.b1_shell.specs.declared.Said.TheVariants.{Done, Stalled, Broken};
 ghost use Rattle.b1_shell.specs.declared.Unsaid.TheVariants.{Fault, Memory};
 
 use answer::answer;
+use b1_edge::Gate;
 use b1_errs::Cause;
 use b1_io::{NotAll, Sink, Source, read_all, write_all};
 pub use forms::Form;
 use forms::{form_of, most_input};
 use lines::bad_line;
+use running::{read_and_run, soak};
 use std::alloc::{AllocError, Global};
+use std::sync::Wait;
+use std::thread::Threads;
+pub use threaded::Threaded;
+use threaded::threaded_of;
 
 /// Which text is written.
 #[derive(Clone, Copy, Debug)]
@@ -39,7 +50,7 @@ pub enum Said {
 
 /// Why nothing is written.
 #[derive(Clone, Copy, Debug)]
-enum Unsaid {
+pub(crate) enum Unsaid {
     /// A read failed.
     Fault,
     /// Memory ran out.
@@ -94,6 +105,20 @@ fn status_of(said: Said) -> u8
     }
 }
 
+// Writes a text, and gives the status of what it says, or that of a write that failed.
+fn write_said<K: Sink>(sink: &mut K, said: Said, text: &[u8]) -> u8
+    ensures known { (result ≡ status said) ⊎ (result ≡ 5) }
+    ensures whole { result ≢ 5 → Took (K.taken sink.old) (K.taken sink.new) text.now }
+    ensures part { result ≡ 5 → TookSuch (K.taken sink.old) (K.taken sink.new) text.now (λ n.
+        n < length text.now) }
+    ensures fault { result ≡ 5 → Rose (K.faults sink.old) (K.faults sink.new) }
+{
+    match write_all(sink, text) {
+        Ok(()) => status_of(said),
+        Err(_) => 5,
+    }
+}
+
 // Does what the words say, on one thread.
 fn run<S: Source, K: Sink>(alloc: Global, words: &[String], source: &mut S, sink: &mut K) -> u8
     ensures known { result ≤ 7 }
@@ -117,10 +142,7 @@ fn run<S: Source, K: Sink>(alloc: Global, words: &[String], source: &mut S, sink
         };
     };
     match read_and_answer(alloc, form, source) {
-        Ok((said, text)) => match write_all(sink, &text) {
-            Ok(()) => status_of(said),
-            Err(_) => 5,
-        },
+        Ok((said, text)) => write_said(sink, said, &text),
         Err(Unsaid::Fault) => 4,
         Err(Unsaid::Memory) => 6,
     }
@@ -163,18 +185,91 @@ pub fn quiet<S: Source, K: Sink>(
     run(alloc, words, source, sink)
 }
 
-/// All that the program does: so far, what `quiet` does.
-pub fn top<S: Source, K: Sink>(alloc: Global, words: &[String], source: &mut S, sink: &mut K) -> u8
+/// All that the program does: what `quiet` does, and with the words `run` and `soak N` what needs threads.
+///
+/// - `run`: the source holds a script; its commands are run on threads in rounds, its turns left out, and then the drain;
+///   the report of what was reached is written. Statuses as `quiet` has them for `play`.
+/// - `soak N`: nothing is read; the script that is made of the number N (decimal, at most 4,294,967,295) is run, and one
+///   line tells what was counted in its record.
+///
+/// With these two words it returns if the waits of its threads end. The gate is called at each point that a driver comes
+/// to. `docs/FORMATS.md` tells the forms.
+pub fn top<R: Threads + Wait + Sync, S: Source, K: Sink, G: Gate + Sync>(
+    rt: &R,
+    alloc: Global,
+    words: &[String],
+    source: &mut S,
+    sink: &mut K,
+    gate: &G,
+) -> u8
     ensures known { result ≤ 7 }
-    ensures unread { AsksNothing (spelled words.now) → source.new ≡ source.old }
+    ensures unread { AsksNothing (spelled words.now) → threads.AsksNothing (spelled words.now)
+        → source.new ≡ source.old }
+    ensures soak_unread { (n : ℕ) → threads.Asks (spelled words.now) (Soak n)
+        → source.new ≡ source.old }
     ensures unwritten { result ≡ 4 → sink.new ≡ sink.old }
     ensures memory { result ≡ 6 → sink.new ≡ sink.old }
     ensures read_fault { result ≡ 4 → Rose (S.faults source.old) (S.faults source.new) }
     ensures write_fault { result ≡ 5 → Rose (K.faults sink.old) (K.faults sink.new) }
-    ensures usage { TellsUsage (spelled words.now) (K.taken sink.old) (K.taken sink.new) result }
-    ensures ends { ReadsToEnd (spelled words.now) (S.left source.old) (S.left source.new) result }
-    ensures input { TellsInput (spelled words.now) (S.left source.old) (K.taken sink.old)
+    ensures usage { threads.AsksNothing (spelled words.now)
+        → TellsUsage (spelled words.now) (K.taken sink.old) (K.taken sink.new) result }
+    ensures ends { threads.AsksNothing (spelled words.now)
+        → ReadsToEnd (spelled words.now) (S.left source.old) (S.left source.new) result }
+    ensures input { threads.AsksNothing (spelled words.now)
+        → TellsInput (spelled words.now) (S.left source.old) (K.taken sink.old)
+        (K.taken sink.new) result }
+    ensures run { threads.Asks (spelled words.now) Run
+        → TellsRun (S.left source.old) (S.left source.new) (K.taken sink.old)
+        (K.taken sink.new) result }
+    ensures soak { (n : ℕ) → threads.Asks (spelled words.now) (Soak n)
+        → TellsSoak n (K.taken sink.old) (K.taken sink.new) result }
+{
+    match threaded_of(words) {
+        None => run(alloc, words, source, sink),
+        Some(Threaded::Run) => write_run(rt, alloc, source, sink, gate),
+        Some(Threaded::Soak { number }) => write_soak(rt, alloc, number, sink, gate),
+    }
+}
+
+// Runs the script that the source holds, and writes what it comes to.
+fn write_run<R: Threads + Wait + Sync, S: Source, K: Sink, G: Gate + Sync>(
+    rt: &R,
+    alloc: Global,
+    source: &mut S,
+    sink: &mut K,
+    gate: &G,
+) -> u8
+    ensures known { result ≤ 7 }
+    ensures unwritten { result ≡ 4 → sink.new ≡ sink.old }
+    ensures memory { result ≡ 6 → sink.new ≡ sink.old }
+    ensures read_fault { result ≡ 4 → Rose (S.faults source.old) (S.faults source.new) }
+    ensures write_fault { result ≡ 5 → Rose (K.faults sink.old) (K.faults sink.new) }
+    ensures tells { TellsRun (S.left source.old) (S.left source.new) (K.taken sink.old)
         (K.taken sink.new) result }
 {
-    run(alloc, words, source, sink)
+    match read_and_run(rt, alloc, source, gate) {
+        Ok((said, text)) => write_said(sink, said, &text),
+        Err(Unsaid::Fault) => 4,
+        Err(Unsaid::Memory) => 6,
+    }
+}
+
+// Runs the script of a number, and writes what was counted.
+fn write_soak<R: Threads + Wait + Sync, K: Sink, G: Gate + Sync>(
+    rt: &R,
+    alloc: Global,
+    number: u32,
+    sink: &mut K,
+    gate: &G,
+) -> u8
+    ensures known { result ≤ 7 }
+    ensures unread { result ≢ 4 }
+    ensures memory { result ≡ 6 → sink.new ≡ sink.old }
+    ensures write_fault { result ≡ 5 → Rose (K.faults sink.old) (K.faults sink.new) }
+    ensures tells { TellsSoak number (K.taken sink.old) (K.taken sink.new) result }
+{
+    match soak(rt, alloc, number, gate) {
+        Ok((said, text)) => write_said(sink, said, &text),
+        Err(_) => 6,
+    }
 }

@@ -1,6 +1,7 @@
 //! The program: the command line, over the standard input and output.
 #![tactic(auto)]
 
+use b1_edge::OpenGate;
 use b1_io::{StdSink, StdSource};
 use b1_shell::top;
 use std::process::ExitCode;
@@ -22,5 +23,5 @@ fn main(rt: HostRuntime) -> ExitCode {
     };
     let mut source = StdSource::make(&rt);
     let mut sink = StdSink::make(rt);
-    ExitCode::from(top(alloc, &words, &mut source, &mut sink))
+    ExitCode::from(top(&rt, alloc, &words, &mut source, &mut sink, &OpenGate))
 }

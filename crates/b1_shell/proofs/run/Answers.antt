@@ -1,15 +1,15 @@
-use Rattle.b1_shell.proofs.Lemmas.{took_part}
+use Rattle.std.proofs.Common.{subst, List, ℕ, ◌<◌, length}
+use Rattle.b1_io.specs.Streams.{Took, TookSuch}
+use Rattle.b1_shell.proofs.Lemmas.{Written, tells_input}
 use Rattle.b1_shell.proofs.run.Goals as goal
 
 pub returns-in-Ok-read_and_answer-clause-input : goal.returns-in-Ok-read_and_answer-clause-input
-returns-in-Ok-read_and_answer-clause-input g c = record {
-  done = λ is. absurd cc;
-  bad = λ is. absurd cc;
-  stalled = λ is. absurd cc;
-  broken = λ is. absurd cc;
-  part = λ _ _. record {
-    form = c.in-Some.form;
-    asks = c.in-Some.ensures.asked;
-    holds = took_part c.in-Some.form c.in-Ok-read_and_answer.said (g.S.Source.left c.args.source.now) _ _ _ _ c.deref.ensures.value c.in-Err-write_all.ensures.prefix c.in-Ok-read_and_answer.ensures.says;
-  };
-}
+returns-in-Ok-read_and_answer-clause-input g c =
+    let old = g.K.Sink.taken c.args.sink.now in
+    let new = g.K.Sink.taken c.write_said.new.sink in
+    let written : Written c.in-Ok-read_and_answer.said c.in-Ok-read_and_answer.text.items old new c.write_said.result = record {
+      known = c.write_said.ensures.known;
+      whole = λ other. subst (λ (t : List ℕ). Took old new t) c.deref.ensures.value (c.write_said.ensures.whole other);
+      part = λ five. subst (λ (t : List ℕ). TookSuch old new t (λ n. n < length t)) c.deref.ensures.value (c.write_said.ensures.part five);
+    } in
+    tells_input written _ c.in-Some.form c.in-Some.ensures.asked _ c.in-Ok-read_and_answer.ensures.says

@@ -1,0 +1,126 @@
+// What is said of a script that is run on threads, and of the run of a generated one.
+ghost use Rattle.std.specs.Prelude.{IfOk, IfErr, IfSome, ◌≡◌, ◌≢◌, ◌≤◌, [], Some, length};
+ghost use Rattle.b1_io.specs.Streams.{Rose};
+ghost use Rattle.b1_model.specs.declared.limits.TheConstants.{MOST_SCRIPT};
+ghost use Rattle.b1_script.specs.Spelling.{HasSpelling};
+ghost use Rattle.b1_shell.specs.declared.Said.TheVariants.{Broken, Done, Stalled};
+ghost use Rattle.b1_shell.specs.declared.Unsaid.TheVariants.{Fault};
+ghost use Rattle.b1_shell.specs.Runs.{IsCounted, RunSays, RunSaysOf, SoakSays};
+
+use crate::lines::bad_line;
+use crate::stalls::stall_report;
+use crate::{Said, Unsaid};
+use b1_edge::Gate;
+use b1_errs::{Cause, NotRead};
+use b1_gen::{count_all, generate, peer_count_of, summary};
+use b1_io::{NotAll, Source, read_all};
+use b1_model::{MOST_SCRIPT, Record};
+use b1_play_report::what_is_played_is_spelled;
+use b1_report::print;
+use b1_run::{Ran, run};
+use b1_script::{Script, read_whole};
+use b1_shortage::has_shortage;
+use std::alloc::{AllocError, Global};
+use std::sync::Wait;
+use std::thread::Threads;
+
+/// Reads the source to its end, runs the script that it held on threads, and makes the whole text.
+pub fn read_and_run<R: Threads + Wait + Sync, S: Source, G: Gate + Sync>(
+    rt: &R,
+    alloc: Global,
+    source: &mut S,
+    gate: &G,
+) -> Result<(Said, Vec<u8>), Unsaid>
+    ensures says { IfOk result (λ r. IfSome (S.left source.old) (λ held. RunSays held r.0 r.1.items)) }
+    ensures unbroken { IfOk result (λ r. r.0 ≢ Broken) }
+    ensures end { IfOk result (λ r. IfSome (S.left source.old) (λ held. length held ≤ MOST_SCRIPT
+        → S.left source.new ≡ Some [])) }
+    ensures done_end { IfOk result (λ r. r.0 ≡ Done
+        → IfSome (S.left source.old) (λ held. S.left source.new ≡ Some [])) }
+    ensures stalled_end { IfOk result (λ r. r.0 ≡ Stalled
+        → IfSome (S.left source.old) (λ held. S.left source.new ≡ Some [])) }
+    ensures fault { IfErr result (λ e. e ≡ Fault
+        → Rose (S.faults source.old) (S.faults source.new)) }
+{
+    match read_all(alloc, source, MOST_SCRIPT) {
+        Ok(bytes) => Ok(answer_run(rt, alloc, &bytes, gate)?),
+        Err(NotAll::Long) => Ok((Said::Bad, bad_line(alloc, MOST_SCRIPT, Cause::Long)?)),
+        Err(NotAll::Fault) => Err(Unsaid::Fault),
+        Err(NotAll::Memory) => Err(Unsaid::Memory),
+    }
+}
+
+/// What is said of an input that is to be run. An error is want of memory.
+fn answer_run<R: Threads + Wait + Sync, G: Gate + Sync>(
+    rt: &R,
+    alloc: Global,
+    bytes: &[u8],
+    gate: &G,
+) -> Result<(Said, Vec<u8>), AllocError>
+    ensures says { IfOk result (λ r. RunSays bytes.now r.0 r.1.items) }
+    ensures unbroken { IfOk result (λ r. r.0 ≢ Broken) }
+{
+    match read_whole(alloc, bytes) {
+        Ok(script) => run_script(rt, alloc, &script, gate),
+        Err(NotRead::Bad { at, cause }) => Ok((Said::Bad, bad_line(alloc, at, cause)?)),
+        Err(NotRead::Memory) => Err(AllocError),
+    }
+}
+
+/// What is said of a script that is run. An error is want of memory, also where it stalls after a SEND that was refused
+/// for memory.
+fn run_script<R: Threads + Wait + Sync, G: Gate + Sync>(
+    rt: &R,
+    alloc: Global,
+    script: &Script,
+    gate: &G,
+) -> Result<(Said, Vec<u8>), AllocError>
+    requires { HasSpelling script.now }
+    ensures says { IfOk result (λ r. RunSaysOf script.now r.0 r.1.items) }
+    ensures unbroken { IfOk result (λ r. r.0 ≢ Broken) }
+{
+    what_is_played_is_spelled();
+    match run(rt, alloc, gate, script)? {
+        Ran::Done(outcome) => Ok((Said::Done, print(alloc, &outcome)?)),
+        Ran::Stalled { waiting, reached } => {
+            if has_shortage(&reached) {
+                return Err(AllocError);
+            }
+            Ok((Said::Stalled, stall_report(alloc, &waiting, &reached)?))
+        }
+    }
+}
+
+/// Makes the script of a number, runs it on threads, and says what was counted. An error is want of memory, also of a SEND
+/// in the run.
+pub fn soak<R: Threads + Wait + Sync, G: Gate + Sync>(
+    rt: &R,
+    alloc: Global,
+    number: u32,
+    gate: &G,
+) -> Result<(Said, Vec<u8>), AllocError>
+    ensures { IfOk result (λ r. SoakSays number r.0 r.1.items) }
+{
+    what_is_played_is_spelled();
+    let script = generate(alloc, number)?;
+    match run(rt, alloc, gate, &script)? {
+        Ran::Done(outcome) => Ok((Said::Done, summary_of(alloc, number, &outcome)?)),
+        Ran::Stalled { waiting, reached } => {
+            if has_shortage(&reached) {
+                return Err(AllocError);
+            }
+            Ok((Said::Stalled, stall_report(alloc, &waiting, &reached)?))
+        }
+    }
+}
+
+/// The summary of a record that shows no want of memory. An error is want of memory, also where the record shows it.
+fn summary_of(alloc: Global, number: u32, outcome: &Record) -> Result<Vec<u8>, AllocError>
+    ensures { IfOk result (λ text. IsCounted number outcome.now text.items) }
+{
+    if has_shortage(outcome) {
+        return Err(AllocError);
+    }
+    let counts = count_all(outcome).ok_or(AllocError)?;
+    summary(alloc, number, peer_count_of(number), counts)
+}
