@@ -6,5 +6,4 @@ pub mod DrainSteps
 pub mod Ended
 pub mod Passing
 pub mod Emptying
-pub mod ShownLemmas
 pub mod Scripts

@@ -1,7 +1,6 @@
 pub mod Runs
 pub mod Rounds
 pub mod Draining
-pub mod Shown
 pub mod Plays
 pub use Rattle.b1_core.specs.Turns
 pub use Rattle.b1_model.specs.MachineDriver

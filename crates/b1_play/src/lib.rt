@@ -6,6 +6,5 @@ mod copying;
 mod drain;
 mod playing;
 mod rounds;
-mod shortage;
 
 pub use playing::{Played, play, play_script};

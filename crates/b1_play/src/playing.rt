@@ -7,7 +7,6 @@ ghost use Rattle.b1_play.specs.Plays.{Begun, PlaysAsPromised, PlaysScript, Stall
 use crate::copying::copy_lists;
 use crate::drain::drain_all;
 use crate::rounds::{nobody_waits, play_rounds};
-use crate::shortage::has_shortage;
 use b1_core::Core;
 use b1_law::every_reached_state_is_sound;
 use b1_model::{Nums32, Record};
@@ -17,6 +16,7 @@ use b1_pool::{ListPool, PoolKind};
 use b1_queue::{PlainQueue, QueueKind};
 use b1_script::Script;
 use b1_serial_law::plays_without_turns_are_serial;
+use b1_shortage::has_shortage;
 use std::alloc::{AllocError, Global};
 
 /// What a play came to.

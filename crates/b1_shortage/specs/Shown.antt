@@ -1,4 +1,4 @@
--- What answers show of want of memory, and what is played.
+-- What answers show of want of memory.
 use Rattle.std.specs.Prelude.{Bool, false, Some}
 use Rattle.std.specs.List.{list_any}
 use Rattle.b1_model.specs.declared.answers.Answer.{Answer}

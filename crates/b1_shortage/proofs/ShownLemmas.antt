@@ -12,7 +12,7 @@ use Rattle.b1_model.specs.declared.records.Record.{Record}
 use Rattle.b1_model.specs.Names.{calls_in}
 use Rattle.b1_model.specs.MachineDriver.{is_memory, send_of}
 use Rattle.b1_schedule.specs.Shortage.{shortage_of, is_short_answer, is_short_place, same_place, is_behind}
-use Rattle.b1_play.specs.Shown.{shows_shortage, some_short}
+use Rattle.b1_shortage.specs.Shown.{shows_shortage, some_short}
 
 none_of : {X : Type 0} (test : X → Bool) (xs : List X) (i : ℕ) (x : X) → list_any test xs ≡ false → slice_get xs i ≡ Some x → test x ≡ false
 none_of test [] i x none is = absurd (cc is)

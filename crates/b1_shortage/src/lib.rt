@@ -1,9 +1,12 @@
+//! Whether a record shows want of memory.
+#![tactic(auto)]
+
 ghost use Rattle.std.specs.Prelude.{◌≡◌, ℕ, false};
 ghost use Rattle.std.specs.Prelude.{Option as Maybe};
 ghost use Rattle.std.specs.List.{list_any};
 ghost use Rattle.b1_model.specs.MachineDriver.{is_memory as is_for_memory};
 ghost use Rattle.b1_schedule.specs.Shortage.{shortage_of};
-ghost use Rattle.b1_play.specs.Shown.{shows_shortage, some_short, some_shortage};
+ghost use Rattle.b1_shortage.specs.Shown.{shows_shortage, some_short, some_shortage};
 
 use b1_model::{Answer, Call, Reason, Record};
 
@@ -17,7 +20,7 @@ pub fn has_shortage(rec: &Record) -> bool
 }
 
 /// Whether some call of a record was refused for memory.
-pub fn record_is_short(rec: &Record) -> bool
+fn record_is_short(rec: &Record) -> bool
     ensures { result ≡ some_shortage rec.now }
 {
     rec.peers
@@ -27,14 +30,14 @@ pub fn record_is_short(rec: &Record) -> bool
 }
 
 /// Whether some call was refused for memory.
-pub fn calls_are_short(calls: &[Call]) -> bool
+fn calls_are_short(calls: &[Call]) -> bool
     ensures { result ≡ list_any some_short calls.now }
 {
     calls.iter().any(|call| is_short(&call.answer))
 }
 
 /// Whether an answer is a refusal for memory, also at one place.
-pub fn is_short(answer: &Answer) -> bool
+fn is_short(answer: &Answer) -> bool
     ensures { result ≡ shows_shortage answer.now }
 {
     match answer {
@@ -45,14 +48,14 @@ pub fn is_short(answer: &Answer) -> bool
 }
 
 /// Whether some place was refused for memory.
-pub fn places_are_short(places: &[Option<Reason>]) -> bool
+fn places_are_short(places: &[Option<Reason>]) -> bool
     ensures { result ≡ list_any is_for_memory places.now }
 {
     places.iter().any(|place| is_memory(place))
 }
 
 /// Whether a place was refused for memory.
-pub fn is_memory(place: &Option<Reason>) -> bool
+fn is_memory(place: &Option<Reason>) -> bool
     ensures { result ≡ is_for_memory place.now }
 {
     match place {
