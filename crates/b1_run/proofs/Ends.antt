@@ -1,5 +1,5 @@
 -- The state of a closed bus whose drivers follow a script.
-use Rattle.std.proofs.Common.{◌≡◌, ℕ, zero, suc, ◌+◌, ◌==◌, true, ◌&&◌, List, [], ◌∷◌, length, map, slice_get, Option, Some, None, is_none, refl, sym, ap, ◌∙◌, subst, arith}
+use Rattle.std.proofs.Common.{◌≡◌, false, ℕ, zero, suc, ◌+◌, ◌==◌, true, ◌&&◌, List, [], ◌∷◌, length, map, slice_get, Option, Some, None, is_none, refl, sym, ap, ◌∙◌, subst, arith}
 use Rattle.std.specs.Prelude.{All, IfOk, Result, Ok, Err}
 use Rattle.std.specs.List.{list_all}
 use Rattle.std.proofs.lemmas.Bool.{eqb-true}
@@ -23,6 +23,7 @@ use Rattle.b1_driver.specs.Parts.{Driver}
 use Rattle.b1_play_commands.specs.Following.{AllInPlace, Follows, AllEnd}
 use Rattle.b1_play_commands.specs.Following as following
 use Rattle.b1_play_commands.proofs.Recorded.{script_kept, recorded_in_place}
+use Rattle.b1_schedule.specs.Shortage.{shortage_of}
 use Rattle.b1_script.specs.declared.script.Script.{Script}
 use Rattle.b1_rule.specs.Rule.{state_of}
 use Rattle.b1_rule.proofs.Whole.{at_map, map_at}
@@ -185,8 +186,8 @@ module _ (s : Script) (c : ClosedFace) (r : Record) (reached : Reached c.opening
             (script_kept s.opening s.commands t (sound s.opening t opening there).numbered (all_follow s.commands c.peers c.drivers closed at_end.closed.follows) end);
       }
 
-  pub stalled_is : (found waiting : List ℕ) → IsStuckAt s c found → waiting ≡ found → IsStalled s waiting r
-  stalled_is found waiting at_stall same =
+  pub stalled_is : (found waiting : List ℕ) → IsStuckAt s c found → waiting ≡ found → ((p k : ℕ) (place : Option ℕ) → shortage_of r p k place ≡ false) → IsStalled s waiting r
+  stalled_is found waiting at_stall same ample =
       let t : State = state_of c.peers c.drivers in
       record {
         state = t;
@@ -197,4 +198,5 @@ module _ (s : Script) (c : ClosedFace) (r : Record) (reached : Reached c.opening
         legal = subst (λ (o : Opening). Legal o r) at_stall.closed.opening legal;
         in_place = λ p. subst (λ (z : Record). AllInPlace (commands_of s.commands p) (calls_of z p)) (sym record_is)
             (recorded_in_place s.commands t p (all_follow s.commands c.peers c.drivers closed at_stall.closed.follows));
+        ample = ample;
       }

@@ -1,5 +1,5 @@
 -- What a run of a script on threads comes to.
-use Rattle.std.specs.Prelude.{◌≡◌, ℕ, List}
+use Rattle.std.specs.Prelude.{◌≡◌, ℕ, false, List, Option}
 use Rattle.b1_model.specs.declared.records.Record.{Record}
 use Rattle.b1_model.specs.Legal.{Legal, Whole}
 use Rattle.b1_model.specs.Names.{calls_of}
@@ -9,6 +9,7 @@ use Rattle.b1_model.specs.MachineParts.{State}
 use Rattle.b1_model.specs.MachineOrder.{DrainedOf, Stuck}
 use Rattle.b1_model.specs.MachineStep.{Reached, record_of_state}
 use Rattle.b1_schedule.specs.Schedule.{waiting_peers}
+use Rattle.b1_schedule.specs.Shortage.{shortage_of}
 use Rattle.b1_play_commands.specs.Following.{AllInPlace}
 use Rattle.b1_script.specs.declared.script.Script.{Script}
 use Rattle.b1_rule.specs.Rule.{state_of}
@@ -36,7 +37,7 @@ pub record IsDone (s : Script) (r : Record) : Type 0 where
   pub whole : Whole s.opening r
   pub script : follows.Script s.opening s.commands r
 
--- the record of a stuck state that steps lead to from the script's opening, with the peers that wait: it is legal, and each peer's calls are the first of its commands
+-- the record of a stuck state that steps lead to from the script's opening, with the peers that wait: it is legal, each peer's calls are the first of its commands, and memory was wanting nowhere
 pub record IsStalled (s : Script) (waiting : List ℕ) (r : Record) : Type 0 where
   pub state : State
   pub reached : Reached s.opening state
@@ -45,6 +46,7 @@ pub record IsStalled (s : Script) (waiting : List ℕ) (r : Record) : Type 0 whe
   pub record_is : r ≡ record_of_state state
   pub legal : Legal s.opening r
   pub in_place : (p : ℕ) → AllInPlace (commands_of s.commands p) (calls_of r p)
+  pub ample : (p k : ℕ) (place : Option ℕ) → shortage_of r p k place ≡ false
 
 -- what a run promises
 abbrev pub RunsAsPromised : Script → Ran → Type 0

@@ -13,6 +13,7 @@ use b1_law::every_reached_state_is_sound;
 use b1_legal::every_reached_record_is_legal;
 use b1_model::{Nums32, Record};
 use b1_script::Script;
+use b1_shortage::has_shortage;
 use std::alloc::{AllocError, Global};
 use std::sync::Wait;
 use std::thread::Threads;
@@ -57,7 +58,8 @@ enum PassEnd {
 
 /// Runs a script on threads, its turns left out: rounds, in each of which the drivers of all peers do their commands
 /// beside each other, and then the drain. What ends is a legal and whole record that has the commands of the script, and
-/// what stalls a legal one. An error is want of memory. It returns only if the drivers' waits for locks end.
+/// what stalls a legal one. An error is want of memory, also where a run stalls after a SEND that was refused for memory.
+/// It returns only if the drivers' waits for locks end.
 pub fn run<R: Threads + Wait + Sync, G: Gate + Sync>(
     rt: &R,
     alloc: Global,
@@ -70,7 +72,7 @@ pub fn run<R: Threads + Wait + Sync, G: Gate + Sync>(
     let site = open_site(alloc, script)?;
     match all_rounds(rt, alloc, gate, script, site)? {
         RoundsEnd::Ended(site) => Ok(Ran::Done(drain(rt, alloc, gate, script, site)?)),
-        RoundsEnd::Stuck { closed, waiting } => Ok(stalled(script, closed, waiting)),
+        RoundsEnd::Stuck { closed, waiting } => stalled(script, closed, waiting),
     }
 }
 
@@ -211,14 +213,18 @@ fn done(_script: &Script, closed: Closed) -> Record
     closed.finish()
 }
 
-/// What a run came to whose bus is stuck.
-fn stalled(_script: &Script, closed: Closed, waiting: Vec<u32>) -> Ran
+/// What a run came to whose bus is stuck, if its record shows no SEND that was refused for memory; else want of memory.
+fn stalled(_script: &Script, closed: Closed, waiting: Vec<u32>) -> Result<Ran, AllocError>
     requires { IsStuckAt _script.now closed waiting.items }
-    ensures { RunsAsPromised _script.now result }
+    ensures { IfOk result (λ ran. RunsAsPromised _script.now ran) }
 {
     closed.facts();
-    Ran::Stalled {
-        waiting: Nums32::from_vec(waiting),
-        reached: closed.finish(),
+    let reached = closed.finish();
+    if has_shortage(&reached) {
+        return Err(AllocError);
     }
+    Ok(Ran::Stalled {
+        waiting: Nums32::from_vec(waiting),
+        reached,
+    })
 }
