@@ -31,7 +31,6 @@ pub record IsRunStall (s : Script) (text : List ℕ) : Type 0 where
   pub waiting : List ℕ
   pub outcome : Record
   pub stalls : runs.IsStalled s waiting outcome
-  pub ample : IsAmple outcome
   pub text_is : text ≡ stalled_line waiting ++ report_text outcome
 
 -- the text is the summary of a record that shows no want of memory, of so many peers as a number's script has, with what is counted in it

@@ -67,8 +67,7 @@ fn answer_run<R: Threads + Wait + Sync, G: Gate + Sync>(
     }
 }
 
-/// What is said of a script that is run. An error is want of memory, also where it stalls after a SEND that was refused
-/// for memory.
+/// What is said of a script that is run. An error is want of memory.
 fn run_script<R: Threads + Wait + Sync, G: Gate + Sync>(
     rt: &R,
     alloc: Global,
@@ -83,9 +82,6 @@ fn run_script<R: Threads + Wait + Sync, G: Gate + Sync>(
     match run(rt, alloc, gate, script)? {
         Ran::Done(outcome) => Ok((Said::Done, print(alloc, &outcome)?)),
         Ran::Stalled { waiting, reached } => {
-            if has_shortage(&reached) {
-                return Err(AllocError);
-            }
             Ok((Said::Stalled, stall_report(alloc, &waiting, &reached)?))
         }
     }
@@ -106,9 +102,6 @@ pub fn soak<R: Threads + Wait + Sync, G: Gate + Sync>(
     match run(rt, alloc, gate, &script)? {
         Ran::Done(outcome) => Ok((Said::Done, summary_of(alloc, number, &outcome)?)),
         Ran::Stalled { waiting, reached } => {
-            if has_shortage(&reached) {
-                return Err(AllocError);
-            }
             Ok((Said::Stalled, stall_report(alloc, &waiting, &reached)?))
         }
     }
