@@ -9,7 +9,6 @@ mod numbers;
 mod opening;
 mod script;
 
-pub use commands::peer_count_of;
 pub use counting::{Counts, Quantity, count_all, count_of};
 pub use laws::{every_destination_is_held, every_generated_script_has_a_spelling};
 pub use lines::summary;

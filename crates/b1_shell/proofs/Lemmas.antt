@@ -22,7 +22,8 @@ use Rattle.b1_shell.specs.declared.forms.Form.{Form}
 use Rattle.b1_shell.specs.declared.forms.Form.TheVariants.{Play, Asm, Dump, Check}
 use Rattle.b1_shell.specs.Answers.{Says, TookText, TookPart, status}
 use Rattle.b1_shell.specs.Ends.{TellsInput}
-use Rattle.b1_shell.specs.Runs.{RunSays, SoakSays, TellsRun, TellsSoak}
+use Rattle.b1_shell.specs.Runs.{RunSays, TellsRun, TellsSoak}
+use Rattle.b1_soak.specs.Soaks.{IsSoak}
 use Rattle.b1_shell.specs.Threads as threads
 use Rattle.b1_shell.specs.declared.threaded.Threaded.TheVariants.{Run, Soak}
 use Rattle.b1_shell.specs.Faults.{IsFault, long, report}
@@ -151,41 +152,13 @@ module _ {said : Said} {text : List ℕ} {old new : Option (List ℕ)} {r : ℕ}
       no_status Stalled is = cc is
       no_status Broken is = cc is
 
-  -- what `soak` wrote
-  pub tells_soak : (number : ℕ) → SoakSays number said text → TellsSoak number old new r
-  tells_soak number says = record {
-    done = λ is. whole_by 0 Done done_of (λ e. cc e) is;
-    stalled = λ is. whole_by 3 Stalled stalled_of (λ e. cc e) is;
-    part = λ five. (text, (said, says), written.part five);
-    others = (λ is. no_status said (status_is 1 is (λ e. cc e)), λ is. not_bad said says (status_is 2 is (λ e. cc e)), λ is. no_fault said (status_is 4 is (λ e. cc e)), λ is. not_broken said says (status_is 7 is (λ e. cc e)));
-  }
-    where
-      whole_by : (n : ℕ) (kind : Said) → ((s : Said) → status s ≡ n → s ≡ kind) → (n ≡ 5 → ⊥) → r ≡ n → TookText old new (SoakSays number kind)
-      whole_by n kind of other is = (text, subst (λ s. SoakSays number s text) (of said (status_is n is other)) says, written.whole (λ five. other (sym is ∙ five)))
-
-      no_status : (s : Said) → status s ≡ 1 → ⊥
-      no_status Done is = cc is
-      no_status Bad is = cc is
-      no_status Stalled is = cc is
-      no_status Broken is = cc is
-
-      no_fault : (s : Said) → status s ≡ 4 → ⊥
-      no_fault Done is = cc is
-      no_fault Bad is = cc is
-      no_fault Stalled is = cc is
-      no_fault Broken is = cc is
-
-      not_bad : (s : Said) → SoakSays number s text → status s ≡ 2 → ⊥
-      not_bad Bad says is = says
-      not_bad Done says is = cc is
-      not_bad Stalled says is = cc is
-      not_bad Broken says is = cc is
-
-      not_broken : (s : Said) → SoakSays number s text → status s ≡ 7 → ⊥
-      not_broken Broken says is = says
-      not_broken Done says is = cc is
-      not_broken Bad says is = cc is
-      not_broken Stalled says is = cc is
+-- what `soak` wrote
+pub tells_soak : (number : ℕ) {text : List ℕ} {old new : Option (List ℕ)} {r : ℕ} → Written Done text old new r → IsSoak number text → TellsSoak number old new r
+tells_soak number {text} written says = record {
+  done = λ is. (text, says, written.whole (λ five. cc (is, five)));
+  part = λ five. (text, says, written.part five);
+  only = elim written.known [ inl is ↦ inl is | inr five ↦ inr (inl five) ];
+}
 
 -- ---- where nothing was written
 
@@ -206,9 +179,8 @@ run_tells_nothing held left old new r which = record {
 pub soak_tells_nothing : (number : ℕ) (old new : Option (List ℕ)) (r : ℕ) → r ≡ 6 → TellsSoak number old new r
 soak_tells_nothing number old new r six = record {
   done = λ is. absurd (cc (is, six));
-  stalled = λ is. absurd (cc (is, six));
   part = λ is. absurd (cc (is, six));
-  others = (λ is. cc (is, six), λ is. cc (is, six), λ is. cc (is, six), λ is. cc (is, six));
+  only = inr (inr six);
 }
 
 -- ---- words

@@ -25,10 +25,11 @@ use answer::answer;
 use b1_edge::Gate;
 use b1_errs::Cause;
 use b1_io::{NotAll, Sink, Source, read_all, write_all};
+use b1_soak::soak;
 pub use forms::Form;
 use forms::{form_of, most_input};
 use lines::bad_line;
-use running::{read_and_run, soak};
+use running::read_and_run;
 use std::alloc::{AllocError, Global};
 use std::sync::Wait;
 use std::thread::Threads;
@@ -268,8 +269,8 @@ fn write_soak<R: Threads + Wait + Sync, K: Sink, G: Gate + Sync>(
     ensures write_fault { result ≡ 5 → Rose (K.faults sink.old) (K.faults sink.new) }
     ensures tells { TellsSoak number (K.taken sink.old) (K.taken sink.new) result }
 {
-    match soak(rt, alloc, number, gate) {
-        Ok((said, text)) => write_said(sink, said, &text),
+    match soak(rt, alloc, gate, number) {
+        Ok(line) => write_said(sink, Said::Done, &line),
         Err(_) => 6,
     }
 }

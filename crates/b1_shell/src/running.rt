@@ -1,25 +1,23 @@
-// What is said of a script that is run on threads, and of the run of a generated one.
+// What is said of a script that is run on threads.
 ghost use Rattle.std.specs.Prelude.{IfOk, IfErr, IfSome, ◌≡◌, ◌≢◌, ◌≤◌, [], Some, length};
 ghost use Rattle.b1_io.specs.Streams.{Rose};
 ghost use Rattle.b1_model.specs.declared.limits.TheConstants.{MOST_SCRIPT};
 ghost use Rattle.b1_script.specs.Spelling.{HasSpelling};
 ghost use Rattle.b1_shell.specs.declared.Said.TheVariants.{Broken, Done, Stalled};
 ghost use Rattle.b1_shell.specs.declared.Unsaid.TheVariants.{Fault};
-ghost use Rattle.b1_shell.specs.Runs.{IsCounted, RunSays, RunSaysOf, SoakSays};
+ghost use Rattle.b1_shell.specs.Runs.{RunSays, RunSaysOf};
 
 use crate::lines::bad_line;
 use crate::stalls::stall_report;
 use crate::{Said, Unsaid};
 use b1_edge::Gate;
 use b1_errs::{Cause, NotRead};
-use b1_gen::{count_all, generate, peer_count_of, summary};
 use b1_io::{NotAll, Source, read_all};
-use b1_model::{MOST_SCRIPT, Record};
+use b1_model::MOST_SCRIPT;
 use b1_play_report::what_is_played_is_spelled;
 use b1_report::print;
 use b1_run::{Ran, run};
 use b1_script::{Script, read_whole};
-use b1_shortage::has_shortage;
 use std::alloc::{AllocError, Global};
 use std::sync::Wait;
 use std::thread::Threads;
@@ -85,35 +83,4 @@ fn run_script<R: Threads + Wait + Sync, G: Gate + Sync>(
             Ok((Said::Stalled, stall_report(alloc, &waiting, &reached)?))
         }
     }
-}
-
-/// Makes the script of a number, runs it on threads, and says what was counted. An error is want of memory, also of a SEND
-/// in the run.
-pub fn soak<R: Threads + Wait + Sync, G: Gate + Sync>(
-    rt: &R,
-    alloc: Global,
-    number: u32,
-    gate: &G,
-) -> Result<(Said, Vec<u8>), AllocError>
-    ensures { IfOk result (λ r. SoakSays number r.0 r.1.items) }
-{
-    what_is_played_is_spelled();
-    let script = generate(alloc, number)?;
-    match run(rt, alloc, gate, &script)? {
-        Ran::Done(outcome) => Ok((Said::Done, summary_of(alloc, number, &outcome)?)),
-        Ran::Stalled { waiting, reached } => {
-            Ok((Said::Stalled, stall_report(alloc, &waiting, &reached)?))
-        }
-    }
-}
-
-/// The summary of a record that shows no want of memory. An error is want of memory, also where the record shows it.
-fn summary_of(alloc: Global, number: u32, outcome: &Record) -> Result<Vec<u8>, AllocError>
-    ensures { IfOk result (λ text. IsCounted number outcome.now text.items) }
-{
-    if has_shortage(outcome) {
-        return Err(AllocError);
-    }
-    let counts = count_all(outcome).ok_or(AllocError)?;
-    summary(alloc, number, peer_count_of(number), counts)
 }
