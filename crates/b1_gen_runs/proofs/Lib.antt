@@ -1,0 +1,4 @@
+pub mod Openings
+pub mod Pools
+pub mod Refusals
+pub mod Commands

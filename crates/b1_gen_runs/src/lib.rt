@@ -1,0 +1,6 @@
+//! What every run of a generated script comes to, in whatever order its threads do their steps.
+#![tactic(auto)]
+
+mod laws;
+
+pub use laws::every_opening_stands;
