@@ -2,3 +2,4 @@ pub mod Openings
 pub mod Pools
 pub mod Refusals
 pub mod Commands
+pub mod Events
