@@ -1,5 +1,5 @@
 -- What the events of a generated script make of a peer's part.
-use Rattle.std.proofs.Common.{◌≡◌, ◌≢◌, ◌⊎◌, inl, inr, refl, sym, ap, ◌∙◌, subst, ℕ, zero, suc, ◌+◌, ◌<◌, ◌≤◌, ◌==◌, max, Bool, true, false, cond, ◌&&◌, not, List, [], ◌∷◌, ◌++◌, take, drop, zip, length, add_comm, sum_by, Option, Some, None, Ok, Err, Result}
+use Rattle.std.proofs.Common.{◌≡◌, ◌≢◌, ◌⊎◌, inl, inr, refl, sym, ap, ◌∙◌, subst, ℕ, zero, suc, ◌+◌, ◌<◌, ◌≤◌, ◌==◌, max, Bool, true, false, cond, ◌&&◌, not, List, [], ◌∷◌, ◌++◌, take, drop, zip, length, sum_by, Option, Some, None, Ok, Err, Result}
 use Rattle.std.specs.Prelude.{find}
 use Rattle.std.specs.List.{take_while, prefix_len}
 use Rattle.std.proofs.lemmas.List.Sums.{sum_by-cons}
@@ -15,7 +15,7 @@ use Rattle.b1_model.specs.declared.answers.Front.{Front}
 use Rattle.b1_model.specs.declared.answers.Receipt.{Receipt}
 use Rattle.b1_model.specs.declared.answers.Answer.{Answer}
 use Rattle.b1_model.specs.MachineParts.{PeerPart, Slice, is_staged, node_at}
-use Rattle.b1_model.specs.MachinePool.{slice_len, slice_at, is_received}
+use Rattle.b1_model.specs.MachinePool.{slice_len, slice_at, is_received, taken_offset}
 use Rattle.b1_model.specs.MachineTables.{put, without, is_stage}
 use Rattle.b1_model.specs.MachineSend.{staged, find_stage, with_slots, committed_by, committed, synced, stamped}
 use Rattle.b1_model.specs.MachineReceive.{is_for_nobody, discards, discarded, cleared, taken_entry, front_by, front_taken, received, received_part, has_dead, slice_given_back, slice_released}
@@ -75,7 +75,9 @@ stage_effect x origin user index payload plain short = record {
     slices = taken_small (slice_len (length payload) 0) x.slices (slice_small (length payload) short) plain.slices;
   };
   pieces = taken_few (slice_len (length payload) 0) x.slices;
-  weight = λ f. let k = sum_put (queued_one f) _ _ x.queue in k ∙ add_comm (f (length payload)) (queued f x);
+  weight = λ f.
+  let k = sum_put (queued_one f) (record { stamp = x.clock + 1; origin = origin; index = index }) (Message origin user index 0 (taken_offset (slice_len (length payload) 0) x.slices) (length payload) [] [] [] payload) x.queue in
+  omega (arith, k);
 }
 
 -- ---- commit
