@@ -3,3 +3,5 @@ pub mod Pools
 pub mod Refusals
 pub mod Commands
 pub mod Events
+pub mod Turns
+pub mod Moves
