@@ -120,6 +120,13 @@ commit_effect x origin index stamp slots plain once = at (find_stage x origin in
       omega (arith, k, l, m);
     }
 
+pub commit_clock : (x : PeerPart) (origin index stamp : ℕ) (slots : List Slot) → (committed x origin index stamp slots).clock ≡ x.clock
+commit_clock x origin index stamp slots = at (find_stage x origin index)
+  where
+    at : (found : Option (Key × Entry)) → (committed_by found x origin index stamp slots).clock ≡ x.clock
+    at None = refl
+    at (Some g) = refl
+
 -- ---- a slice is given back
 
 pub release_effect : (x : PeerPart) (offset : ℕ) → HasPlain x → Effect x (slice_released x offset) nothing nothing
@@ -137,6 +144,13 @@ release_effect x offset plain = at (is_received offset x.slices)
       pieces = let k = back_few offset x.slices in omega (arith, k);
       weight = λ f. refl;
     }
+
+pub release_clock : (x : PeerPart) (offset : ℕ) → (slice_released x offset).clock ≡ x.clock
+release_clock x offset = at (is_received offset x.slices)
+  where
+    at : (b : Bool) → (slice_given_back b x offset).clock ≡ x.clock
+    at true = refl
+    at false = refl
 
 -- ---- recv
 
@@ -169,6 +183,7 @@ pub record Took (x : PeerPart) (front : Result Receipt Front) (y : PeerPart) : T
   pub effect : Effect x y nothing (λ f. got_by f (told front))
   pub good : IsGood cmd.Recv (told front)
   pub ample : IsShort (told front) → ⊥
+  pub clock : y.clock ≡ x.clock
 
 module _ (n q : ℕ) (x : PeerPart) (stands : Stands n q x) (plain : HasPlain x) (cover : Cover 0 x.pool x.slices)
     (sliced : (f : Key × Entry) → Has x.queue f → (t : Slice) × Has x.slices t × IsSliceOf f.1 t) where
@@ -203,6 +218,7 @@ module _ (n q : ℕ) (x : PeerPart) (stands : Stands n q x) (plain : HasPlain x)
         };
         good = tt;
         ample = λ short. short;
+        clock = refl;
       }
 
   entry_taken : (k : Key) (e : Entry) (rest : List (Key × Entry)) → x.queue ≡ (k, e) ∷ rest → IsPlainEntry (k, e) → Took x (Ok (taken_entry (record x { queue = rest }) k e).0) (taken_entry (record x { queue = rest }) k e).1
@@ -214,11 +230,11 @@ module _ (n q : ℕ) (x : PeerPart) (stands : Stands n q x) (plain : HasPlain x)
   entry_taken k (ReleaseNotice serial) rest is one = absurd one
 
   front_tried : (b : Bool) (f : Key × Entry) (rest : List (Key × Entry)) → x.queue ≡ f ∷ rest → IsPlainEntry f → Took x (front_by b x f rest).0 (front_by b x f rest).1
-  front_tried true f rest is one = record { effect = stays x plain; good = λ e. cc e; ample = λ short. cc short }
+  front_tried true f rest is one = record { effect = stays x plain; good = λ e. cc e; ample = λ short. cc short; clock = refl }
   front_tried false f rest is one = entry_taken f.0 f.1 rest is one
 
   queue_tried : (queue : List (Key × Entry)) → x.queue ≡ queue → Took x (front_taken x queue).0 (front_taken x queue).1
-  queue_tried [] is = record { effect = stays x plain; good = λ e. cc e; ample = λ short. cc short }
+  queue_tried [] is = record { effect = stays x plain; good = λ e. cc e; ample = λ short. cc short; clock = refl }
   queue_tried (f ∷ rest) is = front_tried (is_staged f) f rest is (plain.queue f (subst (λ l. Has l f) (sym is) (inl refl)))
 
   pub recv_takes : Took x (received x).front (received_part x)

@@ -55,7 +55,7 @@ nodes_of me to = map (λ h. record { owner = owner_of me h; serial = 0 }) to
 
 -- the phase of an open SEND: nothing was refused, nothing is carried, and clocks are at most twice the stamps given
 abbrev pub IsGoing : ℕ → ℕ → Command → Phase → Type 0
-IsGoing bound me command (Staging begun places collected) = (begun.with ≡ []) × (begun.to ≡ nodes_of me (send_of command).to) × (collected ≤ bound)
+IsGoing bound me command (Staging begun places collected) = (begun.with ≡ []) × (begun.to ≡ nodes_of me (send_of command).to) × (collected ≤ bound) × (list_all is_none places ≡ true)
 IsGoing bound me command (Stamping sending) = (sending.begun.with ≡ []) × (sending.collected ≤ bound)
 IsGoing bound me command (Syncing sending stamp place) = (sending.begun.with ≡ []) × (stamp ≤ bound)
 IsGoing bound me command (Committing sending stamp place) = (sending.begun.with ≡ []) × (stamp ≤ bound)
