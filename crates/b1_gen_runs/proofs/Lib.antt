@@ -5,3 +5,4 @@ pub mod Commands
 pub mod Events
 pub mod Turns
 pub mod Moves
+pub mod Locals

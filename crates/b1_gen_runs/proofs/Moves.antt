@@ -63,14 +63,14 @@ module _ (bound me : ℕ) (calls : List Call) (good : (c : Call) → Has calls c
   E = driver_at me calls (Some (record { command = cmd.Send c; phase = phase })) more many
 
   commits_by : (b : Bool) (i : ℕ) → Moves bound at D x (goes_by b (Some (sent_answer sending stamp)) E (cmd.Send c) (Committing sending stamp i)) y
-  commits_by false i = goes_on bound me calls good (cmd.Send c) phase attempted more attempts many at x y (Committing sending stamp i) nothing effect (λ f q. quiet (at == q) _ _ (brings f q)) marked (omega (arith, clock)) (λ above same. (none, low above (omega (arith, same))))
+  commits_by false i = goes_on bound me calls good (cmd.Send c) phase attempted more attempts many at x y (Committing sending stamp i) nothing effect (λ f q. quiet (at == q) _ _ (brings f q)) marked (omega (arith, clock)) (λ above same. (refl, none, low above (omega (arith, same))))
   commits_by true i = ends bound me calls good (cmd.Send c) phase attempted more attempts many at x y (record { command = cmd.Send c; answer = sent_answer sending stamp }) nothing effect brings (λ f. refl) (inr (λ f. refl)) 1 refl marked (omega (arith, clock)) tt
 
   pub commits : (i : ℕ) → Moves bound at D x (turned E (cmd.Send c) (Goes (Committing sending stamp i))) y
   commits i = commits_by (not (is_place i sending.places)) i
 
   pub syncs : (b : Bool) (i j : ℕ) → Moves bound at D x (turned E (cmd.Send c) (Goes (cond b (Syncing sending stamp i) (Committing sending stamp j)))) y
-  syncs true i j = goes_on bound me calls good (cmd.Send c) phase attempted more attempts many at x y (Syncing sending stamp i) nothing effect (λ f q. quiet (at == q) _ _ (brings f q)) marked (omega (arith, clock)) (λ above same. (none, low above (omega (arith, same))))
+  syncs true i j = goes_on bound me calls good (cmd.Send c) phase attempted more attempts many at x y (Syncing sending stamp i) nothing effect (λ f q. quiet (at == q) _ _ (brings f q)) marked (omega (arith, clock)) (λ above same. (refl, none, low above (omega (arith, same))))
   syncs false i j = commits j
 
 module _ (bound me : ℕ) (calls : List Call) (good : (c : Call) → Has calls c → IsGood c.command c.answer) (c : SendCmd) (attempted : Option (Front × ℕ)) (attempts : ℕ) (at : ℕ) (x : PeerPart) (plain : HasPlain x) (clock : x.clock ≤ bound) where
@@ -114,7 +114,7 @@ module _ (bound me : ℕ) (calls : List Call) (good : (c : Call) → Has calls c
 
 -- ---- begin and stage
 
-get_map : (me : ℕ) (to : List ℕ) (i : ℕ) → i < length to → node_of_place (nodes_of me to) i ≡ record { owner = owner_of me (get_or to i 0); serial = 0 }
+pub get_map : (me : ℕ) (to : List ℕ) (i : ℕ) → i < length to → node_of_place (nodes_of me to) i ≡ record { owner = owner_of me (get_or to i 0); serial = 0 }
 get_map me [] i less = absurd (omega (arith, less))
 get_map me (h ∷ to) zero less = refl
 get_map me (h ∷ to) (suc i) less = get_map me to i (omega (arith, less))
@@ -150,7 +150,7 @@ module _ (number k bound me : ℕ) (calls : List Call) (good : (c : Call) → Ha
       by true plain = absurd (no_short (refused_at reason.Memory None) (then Starting (out.Begin (Err reason.Memory))) refl refl plain)
       by false plain =
           goes_on bound me calls good (cmd.Send c) Starting attempted attempted attempts attempts at x x (Staging (begun_nodes x c) [] 0) nothing (stays x room.plain) (λ f q. quiet (at == q) 0 0 refl) (omega arith) (let l = room.clock in omega (arith, l))
-          (λ above same. (refl, begun_are number me bound x (subst (λ q. HasRoom (peer_count number) q bound x) own room) k, omega arith, refl))
+          (λ above same. (refl, refl, begun_are number me bound x (subst (λ q. HasRoom (peer_count number) q bound x) own room) k, omega arith, refl))
 
   abbrev the_begun : Begun
   the_begun = record { to = nodes_of me c.to; with = [] }
@@ -182,12 +182,12 @@ module _ (number k bound me : ℕ) (calls : List Call) (good : (c : Call) → Ha
     stage_by_length true is d one =
         goes_on bound me calls good (cmd.Send c) (Staging the_begun places collected) attempted attempted attempts attempts at x y (Staging the_begun more_places (max collected x.clock)) (λ f. f (length c.payload)) (stage_effect x me user (length places) c.payload room.plain (payload_short me k))
         (λ f q. ap (λ n. brought f q me (f (length c.payload)) (take n c.to)) counted ∙ brings_one f q) (omega arith) (let l = room.clock in omega (arith, l))
-        (λ above same. (refl, refl, omega (arith, same, low_after), list_all-append is_none places (None ∷ []) ∙ ap (λ b. b && true) all))
+        (λ above same. (refl, refl, refl, omega (arith, same, low_after), list_all-append is_none places (None ∷ []) ∙ ap (λ b. b && true) all))
     stage_by_length false is false one = absurd (cc one)
     stage_by_length false is true one =
         goes_on bound me calls good (cmd.Send c) (Staging the_begun places collected) attempted attempted attempts attempts at x y (Stamping (all_staged the_begun more_places (max collected x.clock))) (λ f. f (length c.payload)) (stage_effect x me user (length places) c.payload room.plain (payload_short me k))
         (λ f q. ap (λ l. brought f q me (f (length c.payload)) l) (sym (take_all (length places + 1) c.to ends_here)) ∙ brings_one f q) (omega arith) (let l = room.clock in omega (arith, l))
-        (λ above same. (refl, omega (arith, same, low_after)))
+        (λ above same. (refl, refl, omega (arith, same, low_after)))
       where
         ends_here : length c.to ≤ length places + 1
         ends_here = let m = ltb-false (length more_places) (length (nodes_of me c.to)) is in let n = length-map {B = NodeRef} c.to (λ h. record { owner = owner_of me h; serial = 0 }) in omega (arith, m, n, counted)

@@ -1,3 +1,4 @@
 pub mod Parts
 pub mod Sums
 pub mod Phases
+pub mod States

@@ -19,7 +19,7 @@ use Rattle.b1_model.specs.MachineTook.{driver_calls}
 use Rattle.b1_step.specs.Rights.{Has}
 use Rattle.b1_gen.specs.Generated.{sending}
 use Rattle.b1_gen.specs.declared.numbers.TheConstants.{PHASES}
-use Rattle.b1_gen_runs.specs.Sums.{owner_of, sends}
+use Rattle.b1_gen_runs.specs.Sums.{owner_of, is_send, sends}
 
 -- ---- what the commands are
 
@@ -55,10 +55,10 @@ nodes_of me to = map (λ h. record { owner = owner_of me h; serial = 0 }) to
 
 -- the phase of an open SEND: nothing was refused, nothing is carried, and clocks are at most twice the stamps given
 abbrev pub IsGoing : ℕ → ℕ → Command → Phase → Type 0
-IsGoing bound me command (Staging begun places collected) = (begun.with ≡ []) × (begun.to ≡ nodes_of me (send_of command).to) × (collected ≤ bound) × (list_all is_none places ≡ true)
-IsGoing bound me command (Stamping sending) = (sending.begun.with ≡ []) × (sending.collected ≤ bound)
-IsGoing bound me command (Syncing sending stamp place) = (sending.begun.with ≡ []) × (stamp ≤ bound)
-IsGoing bound me command (Committing sending stamp place) = (sending.begun.with ≡ []) × (stamp ≤ bound)
+IsGoing bound me command (Staging begun places collected) = (is_send command ≡ true) × (begun.with ≡ []) × (begun.to ≡ nodes_of me (send_of command).to) × (collected ≤ bound) × (list_all is_none places ≡ true)
+IsGoing bound me command (Stamping sending) = (is_send command ≡ true) × (sending.begun.with ≡ []) × (sending.collected ≤ bound)
+IsGoing bound me command (Syncing sending stamp place) = (is_send command ≡ true) × (sending.begun.with ≡ []) × (stamp ≤ bound)
+IsGoing bound me command (Committing sending stamp place) = (is_send command ≡ true) × (sending.begun.with ≡ []) × (stamp ≤ bound)
 IsGoing bound me command phase = ⊥
 
 -- a SEND was sent, and what a RECV was answered with is a message, if it is a receipt
