@@ -6,3 +6,5 @@ pub mod Events
 pub mod Turns
 pub mod Moves
 pub mod Locals
+pub mod Bounds
+pub mod Back
