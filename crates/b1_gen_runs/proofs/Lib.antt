@@ -8,3 +8,4 @@ pub mod Moves
 pub mod Locals
 pub mod Bounds
 pub mod Back
+pub mod Steps
