@@ -9,3 +9,4 @@ pub mod Locals
 pub mod Bounds
 pub mod Back
 pub mod Steps
+pub mod Scripted

@@ -2,3 +2,4 @@ pub mod Parts
 pub mod Sums
 pub mod Phases
 pub mod States
+pub mod Runs
