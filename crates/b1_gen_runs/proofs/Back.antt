@@ -1,5 +1,5 @@
 -- Where all calls and commands are plain after a step, they were so before it.
-use Rattle.std.proofs.Common.{◌≡◌, ◌≢◌, ◌⊎◌, inl, inr, refl, sym, ap, ◌∙◌, subst, ℕ, ◌+◌, ◌<◌, ◌≤◌, Bool, true, false, cond, ◌&&◌, List, [], ◌∷◌, ◌++◌, length, Option, Some, None}
+use Rattle.std.proofs.Common.{◌≡◌, inl, inr, refl, sym, ap, ◌∙◌, subst, ℕ, ◌≤◌, Bool, true, false, cond, ◌&&◌, List, [], ◌∷◌, ◌++◌, Option, Some, None}
 use Rattle.std.proofs.lemmas.Option.{same_Some}
 use Rattle.std.proofs.lemmas.List.Sums.{sum_by_push}
 use Rattle.std.proofs.lemmas.Bool.{cases_eq}
@@ -14,7 +14,7 @@ use Rattle.b1_model.specs.declared.events.Phase.{Phase}
 use Rattle.b1_model.specs.declared.events.Phase.TheVariants.{Starting}
 use Rattle.b1_model.specs.MachineParts.{DriverPart, State}
 use Rattle.b1_model.specs.MachineDriver.{Turn, Goes, Ends, turn}
-use Rattle.b1_model.specs.MachineTook.{is_done, answer_of, is_waiting, is_await, as_call, call_of, goes_by, turned, with_facts, driver_calls, open_call}
+use Rattle.b1_model.specs.MachineTook.{is_done, answer_of, is_waiting, is_await, as_call, call_of, goes_by, turned, with_facts, driver_calls}
 use Rattle.b1_model.specs.MachineEvents.{happens}
 use Rattle.b1_model.specs.MachineStep.{Step, Label, Leads}
 use Rattle.b1_step.specs.Rights.{Has}

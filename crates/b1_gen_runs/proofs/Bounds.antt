@@ -1,5 +1,5 @@
 -- How much is sent to one peer at most, and how many stamps are given.
-use Rattle.std.proofs.Common.{◌≡◌, ◌≢◌, ◌⊎◌, inl, inr, refl, sym, ap, ◌∙◌, subst, ℕ, zero, suc, ◌+◌, ◌*◌, ◌<◌, ◌≤◌, ◌==◌, Bool, true, false, cond, List, [], ◌∷◌, take, filter, map, length, sum_by, Option, Some, None}
+use Rattle.std.proofs.Common.{◌≡◌, ◌≢◌, ◌⊎◌, inl, inr, refl, sym, ap, subst, ℕ, zero, suc, ◌+◌, ◌*◌, ◌<◌, ◌≤◌, ◌==◌, Bool, true, false, cond, List, [], ◌∷◌, filter, map, length, sum_by, Option, Some, None}
 use Rattle.std.specs.Prelude.{slice_get}
 use Rattle.std.specs.List.{range_with_len}
 use Rattle.std.proofs.lemmas.Bool.{ne_eqb, eq-eqb, cases_eq}
@@ -16,8 +16,8 @@ use Rattle.b1_model.specs.MachineDriver.{send_of}
 use Rattle.b1_model.specs.MachineTook.{open_call}
 use Rattle.b1_step.specs.Rights.{Has}
 use Rattle.b1_step.proofs.Lists.{has_left}
-use Rattle.b1_gen.specs.Generated.{below, peer_count, partners, matches, handle_at}
-use Rattle.b1_gen_runs.specs.Sums.{owner_of, where_true, brought, brought_by, brought_so_far, sent, is_send, sends, is_stamped, stamps}
+use Rattle.b1_gen.specs.Generated.{peer_count, partners, matches, handle_at}
+use Rattle.b1_gen_runs.specs.Sums.{owner_of, where_true, brought_by, brought_so_far, sent, is_send, sends, is_stamped, stamps}
 use Rattle.b1_gen_runs.specs.Phases.{IsPlain, IsPlainDriver}
 use Rattle.b1_gen_runs.specs.States.{one}
 use Rattle.b1_gen_runs.proofs.Commands.{IsPartner, partner_is, owner_is}

@@ -1,23 +1,20 @@
 -- The SENDs of a generated script: where they go, and that they are not refused.
-use Rattle.std.proofs.Common.{◌≡◌, ◌≢◌, ◌⊎◌, inl, inr, refl, sym, ap, ◌∙◌, subst, ℕ, zero, suc, ◌+◌, ◌*◌, ◌-◌, ◌/◌, ◌%◌, ◌<◌, ◌≤◌, ◌==◌, Bool, true, false, cond, ◌&&◌, ◌||◌, not, nat_lt, nat_le, List, [], ◌∷◌, map, filter, filter_map, find, length, Option, Some, None, option_map}
+use Rattle.std.proofs.Common.{◌≡◌, ◌≢◌, ◌⊎◌, inl, inr, refl, sym, ap, ◌∙◌, ℕ, zero, suc, ◌+◌, ◌*◌, ◌-◌, ◌/◌, ◌%◌, ◌<◌, ◌≤◌, ◌==◌, Bool, true, false, cond, not, nat_lt, nat_le, List, [], ◌∷◌, map, filter_map, find, length, Some, None, option_map}
 use Rattle.std.specs.Bool.{then_some}
 use Rattle.std.specs.Prelude.{is_none}
 use Rattle.std.specs.List.{list_any, range_with_len}
-use Rattle.std.proofs.lemmas.Bool.{lt-ltb, le-ltb, le-leb, lt-leb, ne_eqb, eqb-true, eq-eqb, cases_lt, cases_eq}
+use Rattle.std.proofs.lemmas.Bool.{lt-ltb, le-ltb, ne_eqb, eq-eqb, cases_lt, cases_eq}
 use native.Mathlib.Omega.{arith}
-use Rattle.b1_model.specs.declared.naming.NodeRef.{NodeRef}
 use Rattle.b1_model.specs.declared.commands.SendCmd.{SendCmd}
-use Rattle.b1_model.specs.declared.answers.Reason.{Reason}
 use Rattle.b1_model.specs.declared.answers.Reason.TheVariants as reason
-use Rattle.b1_model.specs.declared.limits.TheConstants.{MOST_DESTINATIONS, MOST_HANDLES, MOST_PAYLOAD}
-use Rattle.b1_model.specs.Names.{is_own, is_given}
-use Rattle.b1_model.specs.MachineParts.{PeerPart, HandleRecord, clock_limit, is_odd}
+use Rattle.b1_model.specs.declared.limits.TheConstants.{MOST_DESTINATIONS, MOST_PAYLOAD}
+use Rattle.b1_model.specs.MachineParts.{PeerPart, clock_limit, is_odd}
 use Rattle.b1_model.specs.MachineTables.{held_node, node_named, serial_of}
-use Rattle.b1_model.specs.MachineSend.{first_reason, is_bad_send, is_unknown, unknown_reason, dead_reason, send_reasons, send_refusal, begun_part, begun_nodes}
+use Rattle.b1_model.specs.MachineSend.{first_reason, is_bad_send, is_unknown, unknown_reason, send_refusal}
 use Rattle.b1_step.specs.Rights.{Has}
 use Rattle.b1_step.proofs.Lists.{filter_has, has_filter}
 use Rattle.b1_gen.specs.Generated.{below, peer_count, matches, partners, handle_at, payload_len, payload_of}
-use Rattle.b1_gen_runs.specs.Parts.{Stands, longest}
+use Rattle.b1_gen_runs.specs.Parts.{longest}
 use Rattle.b1_gen_runs.specs.Sums.{owner_of}
 use Rattle.b1_gen_runs.specs.Phases.{nodes_of}
 use Rattle.b1_gen.proofs.Rising.{filter-few}

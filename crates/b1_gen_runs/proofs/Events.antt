@@ -1,6 +1,5 @@
 -- What the events of a generated script make of a peer's part.
-use Rattle.std.proofs.Common.{◌≡◌, ◌≢◌, ◌⊎◌, inl, inr, refl, sym, ap, ◌∙◌, subst, ℕ, zero, suc, ◌+◌, ◌<◌, ◌≤◌, ◌==◌, max, Bool, true, false, cond, ◌&&◌, not, List, [], ◌∷◌, ◌++◌, take, drop, zip, length, sum_by, Option, Some, None, Ok, Err, Result}
-use Rattle.std.specs.Prelude.{find}
+use Rattle.std.proofs.Common.{◌≡◌, inl, inr, refl, sym, ap, ◌∙◌, subst, ℕ, ◌+◌, ◌≤◌, Bool, true, false, cond, ◌&&◌, not, List, [], ◌∷◌, take, length, sum_by, Option, Some, None, Ok, Result}
 use Rattle.std.specs.List.{take_while, prefix_len}
 use Rattle.std.proofs.lemmas.List.Sums.{sum_by-cons}
 use native.Mathlib.Omega.{arith}
@@ -8,17 +7,16 @@ use Rattle.b1_model.specs.declared.naming.Key.{Key}
 use Rattle.b1_model.specs.declared.naming.NodeRef.{NodeRef}
 use Rattle.b1_model.specs.declared.commands.Command.TheVariants as cmd
 use Rattle.b1_model.specs.declared.parts.Slot.{Slot}
-use Rattle.b1_model.specs.declared.parts.Received.{Received}
 use Rattle.b1_model.specs.declared.entries.Entry.{Entry}
 use Rattle.b1_model.specs.declared.entries.Entry.TheVariants.{Message, OwnNotice, ForeignNotice, ReleaseNotice}
 use Rattle.b1_model.specs.declared.answers.Front.{Front}
 use Rattle.b1_model.specs.declared.answers.Receipt.{Receipt}
 use Rattle.b1_model.specs.declared.answers.Answer.{Answer}
-use Rattle.b1_model.specs.MachineParts.{PeerPart, Slice, is_staged, node_at}
+use Rattle.b1_model.specs.MachineParts.{PeerPart, Slice, is_staged}
 use Rattle.b1_model.specs.MachinePool.{slice_len, slice_at, is_received, taken_offset}
-use Rattle.b1_model.specs.MachineTables.{put, without, is_stage}
-use Rattle.b1_model.specs.MachineSend.{staged, find_stage, with_slots, committed_by, committed, synced, stamped}
-use Rattle.b1_model.specs.MachineReceive.{is_for_nobody, discards, discarded, cleared, taken_entry, front_by, front_taken, received, received_part, has_dead, slice_given_back, slice_released}
+use Rattle.b1_model.specs.MachineTables.{without, is_stage}
+use Rattle.b1_model.specs.MachineSend.{staged, find_stage, with_slots, committed_by, committed}
+use Rattle.b1_model.specs.MachineReceive.{is_for_nobody, discards, cleared, taken_entry, front_by, front_taken, received, received_part, has_dead, slice_given_back, slice_released}
 use Rattle.b1_model.specs.MachineDriver.{recv_answer}
 use Rattle.b1_step.specs.Rights.{Has}
 use Rattle.b1_step.proofs.Orders.{find_has}
@@ -27,7 +25,7 @@ use Rattle.b1_inv.specs.Stages.{OnceEach}
 use Rattle.b1_inv_record.specs.Parts.{Cover, IsSliceOf}
 use Rattle.b1_inv_refs.proofs.Weights.{stage_left}
 use Rattle.b1_inv_parts.proofs.PoolsKept.{at_own_offset}
-use Rattle.b1_gen_runs.specs.Parts.{Stands, longest, IsPlainEntry, IsSmall, HasPlain}
+use Rattle.b1_gen_runs.specs.Parts.{Stands, longest, IsPlainEntry, HasPlain}
 use Rattle.b1_gen_runs.specs.Sums.{queued_one, queued, got_by}
 use Rattle.b1_gen_runs.specs.Phases.{IsGood, IsShort}
 use Rattle.b1_gen_runs.proofs.Pools.{slice_small, taken_small, taken_few, published_small, published_few, back_small, back_few}
@@ -76,8 +74,8 @@ stage_effect x origin user index payload plain short = record {
   };
   pieces = taken_few (slice_len (length payload) 0) x.slices;
   weight = λ f.
-  let k = sum_put (queued_one f) (record { stamp = x.clock + 1; origin = origin; index = index }) (Message origin user index 0 (taken_offset (slice_len (length payload) 0) x.slices) (length payload) [] [] [] payload) x.queue in
-  omega (arith, k);
+      let k = sum_put (queued_one f) (record { stamp = x.clock + 1; origin = origin; index = index }) (Message origin user index 0 (taken_offset (slice_len (length payload) 0) x.slices) (length payload) [] [] [] payload) x.queue in
+      omega (arith, k);
 }
 
 -- ---- commit
@@ -114,10 +112,10 @@ commit_effect x origin index stamp slots plain once = at (find_stage x origin in
       };
       pieces = omega arith;
       weight = λ f.
-      let k = sum_put (queued_one f) (record { stamp = stamp; origin = origin; index = index }) (with_slots slots g.1) (without (is_stage origin index) x.queue) in
-      let l = stage_left (queued_one f) origin index x.queue g once is in
-      let m = slots_weight f g.0 (record { stamp = stamp; origin = origin; index = index }) g.1 slots in
-      omega (arith, k, l, m);
+          let k = sum_put (queued_one f) (record { stamp = stamp; origin = origin; index = index }) (with_slots slots g.1) (without (is_stage origin index) x.queue) in
+          let l = stage_left (queued_one f) origin index x.queue g once is in
+          let m = slots_weight f g.0 (record { stamp = stamp; origin = origin; index = index }) g.1 slots in
+          omega (arith, k, l, m);
     }
 
 pub commit_clock : (x : PeerPart) (origin index stamp : ℕ) (slots : List Slot) → (committed x origin index stamp slots).clock ≡ x.clock
@@ -212,9 +210,9 @@ module _ (n q : ℕ) (x : PeerPart) (stands : Stands n q x) (plain : HasPlain x)
           };
           pieces = let k = published_few offset x.slices in omega (arith, k);
           weight = λ f.
-          let m = sum_by-cons (queued_one f) (k, Message origin user index serial offset len nodes slots handles payload) rest in
-          let l = ap (sum_by (queued_one f)) is in
-          omega (arith, l, m);
+              let m = sum_by-cons (queued_one f) (k, Message origin user index serial offset len nodes slots handles payload) rest in
+              let l = ap (sum_by (queued_one f)) is in
+              omega (arith, l, m);
         };
         good = tt;
         ample = λ short. short;

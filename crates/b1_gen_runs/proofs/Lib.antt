@@ -10,3 +10,4 @@ pub mod Bounds
 pub mod Back
 pub mod Steps
 pub mod Scripted
+pub mod Reached

@@ -1,5 +1,5 @@
 -- What a step on two parts moves in a run of a generated script.
-use Rattle.std.proofs.Common.{◌≡◌, ◌≢◌, ◌⊎◌, inl, inr, refl, sym, ap, ◌∙◌, subst, ℕ, ◌+◌, ◌<◌, ◌≤◌, ◌==◌, Bool, true, false, List, [], ◌∷◌, get_or, length, Option, Some, None}
+use Rattle.std.proofs.Common.{◌≡◌, ◌⊎◌, inl, inr, refl, sym, ap, ◌∙◌, subst, ℕ, ◌<◌, Bool, true, false, List, [], length, Option, Some}
 use Rattle.std.proofs.lemmas.List.{length-map}
 use native.Mathlib.Omega.{arith}
 use Rattle.b1_model.specs.declared.naming.NodeRef.{NodeRef}
@@ -28,7 +28,7 @@ use Rattle.b1_inv_record.specs.Parts.{IsSliceOf}
 use Rattle.b1_gen.specs.Generated.{peer_count}
 use Rattle.b1_gen_runs.specs.Sums.{owner_of, is_send}
 use Rattle.b1_gen_runs.specs.Phases.{IsPlain, IsGoing, IsGood, IsPlainDriver, nodes_of}
-use Rattle.b1_gen_runs.proofs.Events.{Took, recv_takes, none_dead, commit_effect, commit_clock}
+use Rattle.b1_gen_runs.proofs.Events.{recv_takes, none_dead, commit_effect, commit_clock}
 use Rattle.b1_gen_runs.proofs.Refusals.{HasRoom}
 use Rattle.b1_gen_runs.proofs.Commands.{send_in}
 use Rattle.b1_gen_runs.proofs.Turns.{driver_at, Moves}
@@ -36,6 +36,14 @@ use Rattle.b1_gen_runs.proofs.Moves.{stamp_moves, sync_moves, commit_moves, begi
 
 begun_is : (b : Begun) (nodes : List NodeRef) → b.with ≡ [] → b.to ≡ nodes → record { to = nodes; with = [] } ≡ b
 begun_is b nodes none same = ap (λ t. record { to = t; with = [] }) (sym same) ∙ ap (λ (w : List NodeRef). record { to = b.to; with = w }) (sym none)
+
+-- an open command is a SEND
+pub going_sends : (bound me : ℕ) (command : Command) (phase : Phase) → IsGoing bound me command phase → is_send command ≡ true
+going_sends bound me command (Staging begun places collected) going = going.0
+going_sends bound me command (Stamping sending) going = going.0
+going_sends bound me command (Syncing sending stamp place) going = going.0
+going_sends bound me command (Committing sending stamp place) going = going.0
+going_sends bound me command phase going = absurd going
 
 module _ (o : Opening) (memory : Bool) (number bound me : ℕ) (calls : List Call) (good : (c : Call) → Has calls c → IsGood c.command c.answer) (attempted : Option (Front × ℕ)) (attempts : ℕ) (s : State) (x : PeerPart)
     (once : OnceEach x.queue) (sliced : (f : Key × Entry) → Has x.queue f → (t : Slice) × Has x.slices t × IsSliceOf f.1 t) where
@@ -63,16 +71,9 @@ module _ (o : Opening) (memory : Bool) (number bound me : ℕ) (calls : List Cal
   abbrev InPhase : Command → Phase → Type 0
   InPhase command phase = (phase ≡ Starting) ⊎ (IsGoing bound me command phase × SendShape s command phase)
 
-  going_sends : (command : Command) (phase : Phase) → IsGoing bound me command phase → is_send command ≡ true
-  going_sends command (Staging begun places collected) going = going.0
-  going_sends command (Stamping sending) going = going.0
-  going_sends command (Syncing sending stamp place) going = going.0
-  going_sends command (Committing sending stamp place) going = going.0
-  going_sends command phase going = absurd going
-
   starts : (command : Command) (phase : Phase) → is_send command ≡ false → InPhase command phase → phase ≡ Starting
   starts command phase no_send (inl is) = is
-  starts command phase no_send (inr (going, shape)) = let e : true ≡ false = sym (going_sends command phase going) ∙ no_send in absurd (cc e)
+  starts command phase no_send (inr (going, shape)) = let e : true ≡ false = sym (going_sends bound me command phase going) ∙ no_send in absurd (cc e)
 
   local_send : (k : ℕ) (phase : Phase) → InPhase (cmd.Send (send_in number me k)) phase → Local (cmd.Send (send_in number me k)) phase
   local_send k Starting in_phase = λ room plain. begin_moves number k bound me calls good attempted attempts me x room refl memory plain

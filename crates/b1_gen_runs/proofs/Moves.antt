@@ -1,5 +1,5 @@
 -- What each event of a generated script moves.
-use Rattle.std.proofs.Common.{◌≡◌, ◌≢◌, ◌⊎◌, inl, inr, refl, sym, ap, ◌∙◌, subst, ℕ, zero, suc, ◌+◌, ◌*◌, ◌<◌, ◌≤◌, ◌==◌, max, Bool, true, false, cond, ◌&&◌, not, nat_lt, List, [], ◌∷◌, ◌++◌, take, get_or, map, length, sum_by, Option, Some, None, Ok, Err, Result}
+use Rattle.std.proofs.Common.{◌≡◌, inl, inr, refl, sym, ap, ◌∙◌, subst, ℕ, zero, suc, ◌+◌, ◌*◌, ◌<◌, ◌≤◌, ◌==◌, max, Bool, true, false, cond, ◌&&◌, not, nat_lt, List, [], ◌∷◌, ◌++◌, take, get_or, length, Option, Some, None, Ok, Err, Result}
 use Rattle.std.specs.Prelude.{is_none}
 use Rattle.std.specs.List.{list_all}
 use Rattle.std.proofs.Math.Nat.{max-le}
@@ -9,7 +9,6 @@ use Rattle.std.proofs.lemmas.List.Folds.{list_all-append}
 use Rattle.std.proofs.lemmas.List.Sums.{sum_by_more}
 use native.Mathlib.Omega.{arith}
 use Rattle.b1_model.specs.declared.naming.NodeRef.{NodeRef}
-use Rattle.b1_model.specs.declared.naming.Opening.{Opening}
 use Rattle.b1_model.specs.declared.commands.Command.{Command}
 use Rattle.b1_model.specs.declared.commands.Command.TheVariants as cmd
 use Rattle.b1_model.specs.declared.commands.SendCmd.{SendCmd}
@@ -25,24 +24,22 @@ use Rattle.b1_model.specs.declared.events.Outcome.{Outcome}
 use Rattle.b1_model.specs.declared.events.Outcome.TheVariants as out
 use Rattle.b1_model.specs.declared.events.Phase.{Phase}
 use Rattle.b1_model.specs.declared.events.Phase.TheVariants.{Starting, Staging, Unstaging, Stamping, Syncing, Committing, Reaping}
-use Rattle.b1_model.specs.declared.events.Doing.{Doing}
 use Rattle.b1_model.specs.declared.events.Sending.{Sending}
 use Rattle.b1_model.specs.MachineParts.{PeerPart, DriverPart}
-use Rattle.b1_model.specs.MachineDriver.{Turn, Goes, Ends, turn, is_place, accepted_from, node_of_place, refused_at, all_staged, all_refused}
+use Rattle.b1_model.specs.MachineDriver.{Goes, Ends, turn, is_place, accepted_from, node_of_place, refused_at, all_staged, all_refused}
 use Rattle.b1_model.specs.MachineTook.{sent_answer, goes_by, turned, with_facts, open_call}
-use Rattle.b1_model.specs.MachineSend.{final_stamp, stamped, synced, is_committed, committed, staged, begun_nodes}
+use Rattle.b1_model.specs.MachineSend.{final_stamp, stamped, synced, staged, begun_nodes}
 use Rattle.b1_model.specs.MachineEvents.{begin_by, begin_event, stage_by, stage_event, local_answer}
 use Rattle.b1_model.specs.MachineReceive.{received, received_part, has_dead, slice_released}
 use Rattle.b1_model.specs.MachinePool.{is_received}
 use Rattle.b1_model.specs.declared.answers.Receipt.{Receipt}
 use Rattle.b1_step.specs.Rights.{Has}
 use Rattle.b1_step.proofs.Lists.{has_left, has_right}
-use Rattle.b1_inv.specs.Stages.{OnceEach}
 use Rattle.b1_gen.specs.Generated.{peer_count}
 use Rattle.b1_gen_runs.specs.Parts.{HasPlain}
 use Rattle.b1_gen_runs.specs.Sums.{where_true, brought, brought_by, brought_so_far, owner_of, got_by}
-use Rattle.b1_gen_runs.specs.Phases.{IsGoing, IsGood, IsShort, IsPlainDriver, nodes_of}
-use Rattle.b1_gen_runs.proofs.Events.{Weight, nothing, Effect, stays, clock_rises, commit_effect, stage_effect, release_effect, release_clock, told, Took}
+use Rattle.b1_gen_runs.specs.Phases.{IsGood, IsShort, IsPlainDriver, nodes_of}
+use Rattle.b1_gen_runs.proofs.Events.{Weight, nothing, Effect, stays, clock_rises, stage_effect, release_effect, release_clock, told, Took}
 use Rattle.b1_gen_runs.proofs.Refusals.{HasRoom, no_stage_refusal}
 use Rattle.b1_gen_runs.proofs.Commands.{send_in, payload_short, begun_are, no_send_refusal}
 use Rattle.b1_gen_runs.proofs.Turns.{driver_at, Moves, marks, where_none, goes_on, ends, ends_silent}

@@ -1,5 +1,5 @@
 -- The opening of a generated script, computed for each number of peers.
-use Rattle.std.proofs.Common.{◌≡◌, ◌≢◌, ◌⊎◌, inl, inr, refl, sym, ap, ◌∙◌, subst, ℕ, zero, suc, ◌+◌, ◌%◌, ◌<◌, ◌≤◌, length, ◌==◌, Bool, true, false, ◌&&◌, ◌||◌, not, List, [], ◌∷◌, get_or, Option, Some, None, cond}
+use Rattle.std.proofs.Common.{◌≡◌, ◌≢◌, inl, inr, refl, ap, ◌∙◌, subst, ℕ, zero, suc, ◌+◌, ◌%◌, ◌<◌, ◌≤◌, length, ◌==◌, Bool, true, false, ◌&&◌, ◌||◌, not, List, [], ◌∷◌, get_or, Option, Some, None}
 use Rattle.std.specs.Prelude.{slice_get}
 use Rattle.std.specs.List.{list_all, range_with_len}
 use Rattle.std.proofs.lemmas.Bool.{eqb-true, cases_eq, ne_eqb}
@@ -8,7 +8,7 @@ use Rattle.std.proofs.Math.Nat.{zero-add}
 use native.Mathlib.Omega.{arith}
 use Rattle.b1_model.specs.declared.naming.NodeRef.{NodeRef}
 use Rattle.b1_model.specs.declared.naming.Limits.{Limits}
-use Rattle.b1_model.specs.MachineParts.{PeerPart, NodePart, Slice, is_live, node_at, no_node, same_ref}
+use Rattle.b1_model.specs.MachineParts.{PeerPart, NodePart, is_live, node_at, no_node}
 use Rattle.b1_model.specs.MachinePool.{is_free}
 use Rattle.b1_model.specs.MachineTables.{held_node}
 use Rattle.b1_model.specs.MachineStep.{opening_state}
@@ -160,22 +160,31 @@ module _ (number q : ℕ) (x : PeerPart) (is : IsPeer (opening_state (opening_of
 
   abbrev A : Bool
   A = is_live (node_at x 0).state
+
   abbrev B : Bool
   B = list_all (λ (node : NodePart). not node.taken) x.nodes
+
   abbrev C : Bool
   C = list_all (is_there q x) (below n)
+
   abbrev D : Bool
   D = same_limits x.limits (peer_spec q).limits
+
   abbrev E : Bool
   E = x.pool == POOL
+
   abbrev F : Bool
   F = is_empty x.dead
+
   abbrev G : Bool
   G = is_empty x.queue
+
   abbrev H : Bool
   H = is_one x.slices
+
   abbrev I : Bool
   I = list_all is_free x.slices
+
   abbrev J : Bool
   J = x.clock == 0
 
@@ -184,18 +193,25 @@ module _ (number q : ℕ) (x : PeerPart) (is : IsPeer (opening_state (opening_of
 
   b : (B && (C && (D && (E && (F && (G && (H && (I && J)))))))) ≡ true
   b = (and_parts A (B && (C && (D && (E && (F && (G && (H && (I && J)))))))) here).1
+
   c : (C && (D && (E && (F && (G && (H && (I && J))))))) ≡ true
   c = (and_parts B (C && (D && (E && (F && (G && (H && (I && J))))))) b).1
+
   d : (D && (E && (F && (G && (H && (I && J)))))) ≡ true
   d = (and_parts C (D && (E && (F && (G && (H && (I && J)))))) c).1
+
   e : (E && (F && (G && (H && (I && J))))) ≡ true
   e = (and_parts D (E && (F && (G && (H && (I && J))))) d).1
+
   f : (F && (G && (H && (I && J)))) ≡ true
   f = (and_parts E (F && (G && (H && (I && J)))) e).1
+
   g : (G && (H && (I && J))) ≡ true
   g = (and_parts F (G && (H && (I && J))) f).1
+
   h : (H && (I && J)) ≡ true
   h = (and_parts G (H && (I && J)) g).1
+
   i : (I && J) ≡ true
   i = (and_parts H (I && J) h).1
 

@@ -1,6 +1,6 @@
 -- The slices of a peer: how many there are, how long they are, and that one of them is always long enough.
-use Rattle.std.proofs.Common.{◌≡◌, ◌⊎◌, inl, inr, refl, sym, ap, ◌∙◌, subst, ℕ, zero, suc, ◌+◌, ◌*◌, ◌-◌, ◌<◌, ◌≤◌, ◌==◌, max, Bool, true, false, cond, ◌&&◌, nat_lt, nat_le, List, [], ◌∷◌, ◌++◌, length, Option, Some, None}
-use Rattle.std.proofs.lemmas.Bool.{cond_both, cases_lt}
+use Rattle.std.proofs.Common.{◌≡◌, ◌⊎◌, inl, inr, refl, sym, ap, ◌∙◌, subst, ℕ, ◌+◌, ◌*◌, ◌-◌, ◌<◌, ◌≤◌, ◌==◌, max, Bool, true, false, cond, ◌&&◌, nat_lt, List, [], ◌∷◌, ◌++◌, length, Option, Some, None}
+use Rattle.std.proofs.lemmas.Bool.{cases_lt}
 use Rattle.std.proofs.lemmas.Option.{same_Some}
 use Rattle.std.proofs.Math.Nat.{max-le, le-max_left, le-max_right}
 use Rattle.std.proofs.lemmas.List.{length-append}
@@ -8,7 +8,7 @@ use native.Mathlib.Omega.{arith}
 use Rattle.b1_model.specs.declared.tables.Usage.{Usage}
 use Rattle.b1_model.specs.declared.tables.Usage.TheVariants.{Free, Unpublished, Published}
 use Rattle.b1_model.specs.MachineParts.{Slice}
-use Rattle.b1_model.specs.MachinePool.{slice_len, is_free, largest_free, is_fit, least_fit, lesser_of, slice_before, slice_at, replaced_at, rest_of, divided, taken, used_as, joined, merged, given_back, published, is_received}
+use Rattle.b1_model.specs.MachinePool.{slice_len, is_free, largest_free, least_fit, slice_at, replaced_at, divided, taken, used_as, joined, merged, given_back, published}
 use Rattle.b1_step.specs.Rights.{Has}
 use Rattle.b1_step.proofs.Lists.{has_append}
 use Rattle.b1_inv_record.specs.Parts.{Cover}

@@ -1,24 +1,22 @@
 -- No destination refuses a message of a generated script, and no peer its begin, but for want of memory.
-use Rattle.std.proofs.Common.{◌≡◌, ◌≢◌, ◌⊎◌, inl, inr, refl, sym, ap, ◌∙◌, subst, ℕ, zero, suc, ◌+◌, ◌*◌, ◌-◌, ◌/◌, ◌%◌, ◌^◌, ◌<◌, ◌≤◌, ◌==◌, max, Bool, true, false, cond, ◌&&◌, ◌||◌, not, nat_lt, nat_le, List, [], ◌∷◌, map, length, Option, Some, None}
+use Rattle.std.proofs.Common.{◌≡◌, inl, inr, refl, sym, ap, ◌∙◌, subst, ℕ, ◌+◌, ◌*◌, ◌≤◌, ◌==◌, Bool, true, false, cond, ◌||◌, not, nat_lt, nat_le, List, [], ◌∷◌, length, Some, None}
 use Rattle.std.specs.Bool.{then_some}
-use Rattle.std.proofs.lemmas.Bool.{lt-ltb, le-ltb, le-leb, lt-leb}
+use Rattle.std.proofs.lemmas.Bool.{le-ltb, le-leb, lt-leb}
 use native.Mathlib.Omega.{arith}
 use Rattle.b1_model.specs.declared.naming.Key.{Key}
-use Rattle.b1_model.specs.declared.naming.NodeRef.{NodeRef}
 use Rattle.b1_model.specs.declared.entries.Entry.{Entry}
 use Rattle.b1_model.specs.declared.entries.Entry.TheVariants.{Message, OwnNotice, ForeignNotice, ReleaseNotice}
-use Rattle.b1_model.specs.declared.answers.Reason.{Reason}
 use Rattle.b1_model.specs.declared.answers.Reason.TheVariants as reason
 use Rattle.b1_model.specs.declared.answers.Quantity.{Quantity}
 use Rattle.b1_model.specs.declared.answers.Quantity.TheVariants.{Entries, Bytes, Handles}
-use Rattle.b1_model.specs.MachineParts.{PeerPart, Slice, clock_limit, is_live, node_at}
+use Rattle.b1_model.specs.MachineParts.{PeerPart, clock_limit}
 use Rattle.b1_model.specs.MachinePool.{slice_len, largest_free}
 use Rattle.b1_model.specs.MachineTables.{amount, charged, limit_of, within_quota, over_quota}
-use Rattle.b1_model.specs.MachineSend.{first_reason, stage_reasons, stage_refusal}
+use Rattle.b1_model.specs.MachineSend.{first_reason, stage_refusal}
 use Rattle.b1_step.specs.Rights.{Has}
 use Rattle.b1_inv_record.specs.Parts.{Cover}
 use Rattle.b1_gen.specs.Generated.{peer_spec}
-use Rattle.b1_gen_runs.specs.Parts.{Stands, longest, IsPlainEntry, IsSmall, HasPlain}
+use Rattle.b1_gen_runs.specs.Parts.{Stands, longest, IsPlainEntry, HasPlain}
 use Rattle.b1_gen_runs.proofs.Pools.{slice_small, has_room}
 
 -- ---- what a queue is charged

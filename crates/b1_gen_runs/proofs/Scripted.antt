@@ -1,5 +1,5 @@
 -- The commands of a generated script, and the calls that follow them.
-use Rattle.std.proofs.Common.{◌≡◌, ◌≢◌, ◌⊎◌, inl, inr, refl, sym, ap, ◌∙◌, subst, ℕ, zero, suc, ◌+◌, ◌*◌, ◌<◌, ◌≤◌, ◌==◌, Bool, true, false, cond, ◌&&◌, ◌||◌, List, [], ◌∷◌, ◌++◌, map, take, length, get_or, sum_by, Option, Some, None, option_map}
+use Rattle.std.proofs.Common.{◌≡◌, ◌⊎◌, inl, inr, refl, sym, ap, ◌∙◌, subst, ℕ, zero, suc, ◌+◌, ◌*◌, ◌<◌, ◌≤◌, ◌==◌, Bool, true, false, ◌&&◌, ◌||◌, List, [], ◌∷◌, ◌++◌, map, take, length, get_or, sum_by, Option, Some, None, option_map}
 use Rattle.std.specs.Prelude.{slice_get, ⊤}
 use Rattle.std.specs.List.{flat_map, range_with_len}
 use Rattle.std.proofs.lemmas.Option.{same_Some, slice_get_within, slice_get-map, slice_get-get_or}
@@ -12,21 +12,19 @@ use Rattle.b1_model.specs.declared.commands.Command.{Command}
 use Rattle.b1_model.specs.declared.commands.Command.TheVariants as cmd
 use Rattle.b1_model.specs.declared.answers.Answer.{Answer}
 use Rattle.b1_model.specs.declared.answers.Answer.TheVariants as answer
-use Rattle.b1_model.specs.declared.answers.Refused.{Refused}
 use Rattle.b1_model.specs.declared.records.Call.{Call}
-use Rattle.b1_model.specs.declared.events.Doing.{Doing}
 use Rattle.b1_model.specs.Names.{calls_of}
-use Rattle.b1_model.specs.Script.{resolved, resolved_handle, is_reference, IsInPlace, commands_of}
+use Rattle.b1_model.specs.Script.{resolved, resolved_handle, IsInPlace, commands_of}
 use Rattle.b1_model.specs.MachineParts.{PeerPart, DriverPart, State}
 use Rattle.b1_model.specs.MachineDriver.{is_memory, send_of}
-use Rattle.b1_model.specs.MachineTook.{driver_calls, open_call}
+use Rattle.b1_model.specs.MachineTook.{driver_calls}
 use Rattle.b1_model.specs.MachineStep.{record_of_state, no_peer}
 use Rattle.b1_step.specs.Rights.{Has}
 use Rattle.b1_step.proofs.Lists.{has_append, has_at}
 use Rattle.b1_inv.specs.Words.{IsPeer, IsDriver}
 use Rattle.b1_inv.specs.Sound.{IsSound}
 use Rattle.b1_inv_cover.proofs.Listed.{recorded_calls}
-use Rattle.b1_schedule.specs.Shortage.{same_place, is_short_answer, is_short_refusal, is_behind}
+use Rattle.b1_schedule.specs.Shortage.{same_place, is_short_answer, is_behind}
 use Rattle.b1_play_commands.specs.Following.{AllInPlace, asked, Follows}
 use Rattle.b1_play_commands.proofs.Calls.{driver_follows}
 use Rattle.b1_gen.specs.Generated.{below, peer_count, partners, handle_at, sending, taking, taken_before, phase_commands, commands_before, opening_of, peer_spec}
@@ -35,9 +33,9 @@ use Rattle.b1_gen.specs.Generated.{generated}
 use Rattle.b1_gen.specs.declared.numbers.TheConstants.{PHASES}
 use Rattle.b1_gen.proofs.Rising.{commands_before-none, commands_before-more}
 use Rattle.b1_gen_runs.specs.Sums.{where_true, is_send, sends}
-use Rattle.b1_gen_runs.specs.Phases.{IsPlain, IsShort, IsPlainCall, IsPlainDriver}
+use Rattle.b1_gen_runs.specs.Phases.{IsPlain, IsShort, IsPlainDriver}
 use Rattle.b1_gen_runs.specs.States.{AllPlain}
-use Rattle.b1_gen_runs.specs.Runs.{HasMemory, IsRun}
+use Rattle.b1_gen_runs.specs.Runs.{IsRun}
 use Rattle.b1_gen_runs.proofs.Commands.{handle_even}
 
 -- ---- the commands
@@ -212,7 +210,7 @@ short_shown command (answer.Refused refused) short = (refused.place, shown (is_m
     shown false is = absurd (cc is)
 short_shown command got short = absurd short
 
-has_place : {X : Type 0} (xs : List X) (x : X) → Has xs x → (k : ℕ) × (slice_get xs k ≡ Some x)
+pub has_place : {X : Type 0} (xs : List X) (x : X) → Has xs x → (k : ℕ) × (slice_get xs k ≡ Some x)
 has_place [] x has = absurd has
 has_place (y ∷ ys) x (inl same) = (0, ap Some (sym same))
 has_place (y ∷ ys) x (inr has) = let k = has_place ys x has in (suc k.0, k.1)
@@ -255,16 +253,16 @@ module _ (number : ℕ) (s : State) (sound : IsSound (opening_of (peer_count num
     pub driver_plain : IsPlainDriver number p d
     driver_plain = record {
       calls = λ c has.
-      let k = has_place (driver_calls d) c has in
-      record {
-        command = command_plain (take k.0 (driver_calls d)) (slice_get commands k.0) k.0 c refl (in_place k.0 c k.1);
-        ample = not_short k.0 c k.1;
-      };
+          let k = has_place (driver_calls d) c has in
+          record {
+            command = command_plain (take k.0 (driver_calls d)) (slice_get commands k.0) k.0 c refl (in_place k.0 c k.1);
+            ample = not_short k.0 c k.1;
+          };
       doing = λ doing open_is. subst (IsPlain number p) (sym (follows.doing doing open_is).command) (doing_plain (slice_get commands (length d.calls)) (length d.calls) d.calls refl);
       few =
-      let l = sends_few d.calls commands (λ k c at send. in_place_send (take k d.calls) (slice_get commands k) c (follows.calls k c at) send) in
-      let m = send_often number p in
-      omega (arith, l, m);
+          let l = sends_few d.calls commands (λ k c at send. in_place_send (take k d.calls) (slice_get commands k) c (follows.calls k c at) send) in
+          let m = send_often number p in
+          omega (arith, l, m);
     }
 
   pub run_plain : AllPlain number s

@@ -1,13 +1,11 @@
 -- Every step of a run of a generated script leaves its state well.
-use Rattle.std.proofs.Common.{◌≡◌, ◌≢◌, ◌⊎◌, inl, inr, refl, sym, ap, ◌∙◌, subst, ℕ, ◌+◌, ◌*◌, ◌<◌, ◌≤◌, ◌==◌, Bool, true, false, List, [], ◌∷◌, length, get_or, sum_by, Option, Some, None}
-use Rattle.std.specs.Prelude.{slice_get}
-use Rattle.std.proofs.lemmas.Option.{same_Some, slice_get_within, slice_get-get_or}
-use Rattle.std.proofs.lemmas.Bool.{ne_eqb, eq-eqb, cases_eq}
+use Rattle.std.proofs.Common.{◌≡◌, ◌≢◌, ◌⊎◌, inl, inr, refl, sym, ap, ◌∙◌, subst, ℕ, ◌+◌, ◌*◌, ◌≤◌, ◌==◌, Bool, true, false, List, [], ◌∷◌, length, get_or, sum_by, Option, Some, None}
+use Rattle.std.proofs.lemmas.Option.{slice_get_within, slice_get-get_or}
+use Rattle.std.proofs.lemmas.Bool.{ne_eqb, eq-eqb}
 use Rattle.std.proofs.lemmas.List.{length-map}
 use Rattle.std.proofs.lemmas.List.FromFn.{length-range_with_len}
 use native.Mathlib.Omega.{arith}
 use Rattle.b1_model.specs.declared.naming.Key.{Key}
-use Rattle.b1_model.specs.declared.naming.NodeRef.{NodeRef}
 use Rattle.b1_model.specs.declared.entries.Entry.{Entry}
 use Rattle.b1_model.specs.declared.entries.Entry.TheVariants.{Message, OwnNotice, ForeignNotice, ReleaseNotice}
 use Rattle.b1_model.specs.declared.naming.Opening.{Opening}
@@ -17,7 +15,7 @@ use Rattle.b1_model.specs.declared.events.Doing.{Doing}
 use Rattle.b1_model.specs.declared.events.Phase.TheVariants.{Starting, Staging, Stamping, Syncing, Committing}
 use Rattle.b1_model.specs.declared.events.Phase.{Phase}
 use Rattle.b1_model.specs.declared.records.Call.{Call}
-use Rattle.b1_model.specs.MachineParts.{PeerPart, DriverPart, State, Slice, NodePart, no_node, is_live, node_at, is_data}
+use Rattle.b1_model.specs.MachineParts.{PeerPart, DriverPart, State, NodePart, no_node, is_live, is_data}
 use Rattle.b1_model.specs.MachineTables.{held_node}
 use Rattle.b1_model.specs.MachineDriver.{turn, phase_action, peer_of, next_action}
 use Rattle.b1_model.specs.MachineTook.{turned, with_facts}
@@ -31,14 +29,14 @@ use Rattle.std.proofs.lemmas.List.Sums.{sum_by-cons}
 use Rattle.b1_inv.specs.Words.{IsPeer, IsDriver}
 use Rattle.b1_inv.specs.Sound.{IsSound}
 use Rattle.b1_inv.specs.Sends.{SendShape}
-use Rattle.b1_inv_record.specs.Parts.{IsSliceOf, PoolRight}
+use Rattle.b1_inv_record.specs.Parts.{PoolRight}
 use Rattle.b1_inv_tools.proofs.Leaves.{Did, step_did, driver_cases, peer_cases}
 use Rattle.b1_gen.specs.Generated.{peer_count, peer_spec, below, opening_of, handle_at}
 use Rattle.b1_gen_runs.specs.Parts.{Stands, HasPlain, IsPlainEntry}
 use Rattle.b1_gen_runs.specs.Sums.{where_true, brought_by, brought_so_far, got_by, sends, sent, all_sent, queued_one, queued, got, stamps, all_stamps, is_stamped}
 use Rattle.b1_gen_runs.specs.Phases.{IsPlain, IsPlainDriver, IsGoing, GoesWell}
 use Rattle.b1_gen_runs.specs.States.{AllPlain, RunsWell, one}
-use Rattle.b1_gen_runs.proofs.Events.{Weight, Effect}
+use Rattle.b1_gen_runs.proofs.Events.{Weight}
 use Rattle.b1_gen_runs.proofs.Refusals.{HasRoom}
 use Rattle.b1_gen_runs.proofs.Turns.{driver_at, Moves}
 use Rattle.b1_gen_runs.proofs.Locals.{local}
@@ -92,11 +90,11 @@ module _ (number : ℕ) (s : State) (sound : IsSound (opening_of (peer_count num
     plain = well.plain q x is;
     cover = right.cover q x is;
     queued =
-    let d = driver_there q x is in
-    let k = well.balance one q x d.0 is d.1 in
-    let l = queue_weighs x.queue (well.plain q x is).queue in
-    let m = all_sent_few q in
-    omega (arith, k, l, m);
+        let d = driver_there q x is in
+        let k = well.balance one q x d.0 is d.1 in
+        let l = queue_weighs x.queue (well.plain q x is).queue in
+        let m = all_sent_few q in
+        omega (arith, k, l, m);
     pieces = let k = well.pieces q x is in let m = all_sent_few q in omega (arith, k, m);
     clock = well.clocks q x is;
     low = let m = all_stamps_few in omega (arith, m);

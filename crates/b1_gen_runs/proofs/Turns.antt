@@ -1,10 +1,9 @@
 -- What a driver's part is after an event, and what a step on two parts moves.
-use Rattle.std.proofs.Common.{◌≡◌, ◌≢◌, ◌⊎◌, inl, inr, refl, sym, ap, ◌∙◌, subst, ℕ, zero, suc, ◌+◌, ◌*◌, ◌<◌, ◌≤◌, ◌==◌, Bool, true, false, cond, List, [], ◌∷◌, ◌++◌, take, length, sum_by, append-nil, Option, Some, None}
+use Rattle.std.proofs.Common.{◌≡◌, ◌⊎◌, inl, inr, refl, sym, ap, ◌∙◌, subst, ℕ, ◌+◌, ◌*◌, ◌≤◌, ◌==◌, Bool, true, false, List, [], ◌∷◌, ◌++◌, append-nil, Option, Some, None}
 use Rattle.std.proofs.lemmas.List.Sums.{sum_by_push}
 use Rattle.std.proofs.lemmas.Option.{same_Some}
 use native.Mathlib.Omega.{arith}
 use Rattle.b1_model.specs.declared.commands.Command.{Command}
-use Rattle.b1_model.specs.declared.answers.Answer.{Answer}
 use Rattle.b1_model.specs.declared.answers.Front.{Front}
 use Rattle.b1_model.specs.declared.records.Call.{Call}
 use Rattle.b1_model.specs.declared.events.Phase.{Phase}
@@ -79,10 +78,10 @@ module _ (bound me : ℕ) (calls : List Call) (good : (c : Call) → Has calls c
     left = left;
     effect = effect;
     brings = λ f q.
-    let k = brings f q in
-    let l = sum_by_push (λ (c : Call). brought_by f q me c.command) calls c in
-    let m = where_none (at == q) in
-    omega (arith, k, l, m);
+        let k = brings f q in
+        let l = sum_by_push (λ (c : Call). brought_by f q me c.command) calls c in
+        let m = where_none (at == q) in
+        omega (arith, k, l, m);
     takes = λ f. let k = gets f in let l = sum_by_push (λ (c : Call). got_by f c.answer) calls c in omega (arith, k, l);
     own = own;
     given = omega (arith, marked, pushed);

@@ -1,10 +1,9 @@
 -- What a driver's part is in every run of a generated script: its commands, and the phase of the open one.
-use Rattle.std.specs.Prelude.{◌≡◌, ◌≢◌, ◌≤◌, ◌*◌, ⊤, ℕ, true, false, List, [], ◌∷◌, map, Option, Some, None, is_none}
+use Rattle.std.specs.Prelude.{◌≡◌, ◌≢◌, ◌≤◌, ⊤, ℕ, true, false, List, [], map, Some, is_none}
 use Rattle.std.specs.List.{list_all}
 use Rattle.b1_model.specs.declared.naming.NodeRef.{NodeRef}
 use Rattle.b1_model.specs.declared.commands.Command.{Command}
 use Rattle.b1_model.specs.declared.commands.Command.TheVariants as cmd
-use Rattle.b1_model.specs.declared.parts.Begun.{Begun}
 use Rattle.b1_model.specs.declared.answers.Answer.{Answer}
 use Rattle.b1_model.specs.declared.answers.Answer.TheVariants as answer
 use Rattle.b1_model.specs.declared.answers.Receipt.TheVariants as receipt

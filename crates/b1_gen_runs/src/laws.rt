@@ -1,12 +1,13 @@
-ghost use Rattle.std.specs.Prelude.{◌≡◌, ◌<◌, ℕ};
-ghost use Rattle.b1_model.specs.MachineParts.{PeerPart};
-ghost use Rattle.b1_model.specs.MachineStep.{opening_state};
-ghost use Rattle.b1_inv.specs.Words.{IsPeer};
-ghost use Rattle.b1_gen.specs.Generated.{peer_count, opening_of};
-ghost use Rattle.b1_gen_runs.specs.Parts.{Stands};
+ghost use Rattle.std.specs.Prelude.{◌≡◌, ℕ, Some, slice_get};
+ghost use Rattle.b1_model.specs.declared.records.Call.{Call};
+ghost use Rattle.b1_model.specs.Names.{calls_of};
+ghost use Rattle.b1_model.specs.MachineParts.{State};
+ghost use Rattle.b1_model.specs.MachineStep.{record_of_state};
+ghost use Rattle.b1_gen_runs.specs.Runs.{IsRun, IsSentToAll};
 
-/// At the opening of a generated script each peer has one live node, holds the node of each other peer, and has an empty
-/// queue and its whole pool.
-pub fn every_opening_stands()
-    ensures { (number q : ℕ) (x : PeerPart) → IsPeer (opening_state (opening_of (peer_count number))) q x → Stands (peer_count number) q x }
+/// Whatever the order of the steps of a generated script, as long as memory is wanting nowhere: each SEND that stands in
+/// the record was sent, and all its destinations have accepted it.
+pub fn generated_sends_are_accepted()
+    ensures { (number p k : ℕ) (s : State) (c : Call) → IsRun number s
+        → slice_get (calls_of (record_of_state s) p) k ≡ Some c → IsSentToAll c.command c.answer }
 {}

@@ -3,4 +3,4 @@
 
 mod laws;
 
-pub use laws::every_opening_stands;
+pub use laws::generated_sends_are_accepted;
