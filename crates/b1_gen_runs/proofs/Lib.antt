@@ -11,3 +11,4 @@ pub mod Back
 pub mod Steps
 pub mod Scripted
 pub mod Reached
+pub mod Numbers

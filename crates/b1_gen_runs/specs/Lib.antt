@@ -3,3 +3,4 @@ pub mod Sums
 pub mod Phases
 pub mod States
 pub mod Runs
+pub mod Counts
