@@ -12,3 +12,4 @@ pub mod Steps
 pub mod Scripted
 pub mod Reached
 pub mod Numbers
+pub mod Prefixes
