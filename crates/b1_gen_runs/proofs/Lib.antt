@@ -13,3 +13,4 @@ pub mod Scripted
 pub mod Reached
 pub mod Numbers
 pub mod Prefixes
+pub mod Paired

@@ -110,7 +110,7 @@ handles_resolved : (p : ℕ) (calls : List Call) (rs : List ℕ) → map (resolv
 handles_resolved p calls [] = refl
 handles_resolved p calls (r ∷ rs) = rw (ap (λ n. n == 1) (handle_even p r)) (ap (λ l. handle_at p r ∷ l) (handles_resolved p calls rs))
 
-sending_resolved : (number p k : ℕ) (calls : List Call) → resolved (sending number p k) calls ≡ sending number p k
+pub sending_resolved : (number p k : ℕ) (calls : List Call) → resolved (sending number p k) calls ≡ sending number p k
 sending_resolved number p k calls = ap (λ to. cmd.Send (record { go_on = false; to = to; with = []; payload = (send_of (sending number p k)).payload })) (handles_resolved p calls (partners number k p))
 
 pub resolved_plain : (number p : ℕ) (command : Command) (calls : List Call) → IsScripted number p command → IsPlain number p (resolved command calls)
