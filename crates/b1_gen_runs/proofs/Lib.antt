@@ -14,3 +14,4 @@ pub mod Reached
 pub mod Numbers
 pub mod Prefixes
 pub mod Paired
+pub mod Stalls

@@ -140,21 +140,21 @@ module _ (number p : ℕ) where
     phase = n;
     less = omega arith;
     brings = λ f q.
-    let a = sum_by-append (λ c. brought_by f q p c) (commands_before number p n) (sending number p n ∷ take i (more n)) in
-    let b = sum_by-cons (λ c. brought_by f q p c) (sending number p n) (take i (more n)) in
-    let c = first_bring f q p (range_with_len (taken_before number p n) (length (partners number n p))) i in
-    let d = all_bring f q n in
-    let e = sending_brings f q n in
-    let g = sum_by-below (λ k. times q (f (payload_len k)) (partners number k p)) n in
-    omega (arith, a, b, c, d, e, g);
+        let a = sum_by-append (λ c. brought_by f q p c) (commands_before number p n) (sending number p n ∷ take i (more n)) in
+        let b = sum_by-cons (λ c. brought_by f q p c) (sending number p n) (take i (more n)) in
+        let c = first_bring f q p (range_with_len (taken_before number p n) (length (partners number n p))) i in
+        let d = all_bring f q n in
+        let e = sending_brings f q n in
+        let g = sum_by-below (λ k. times q (f (payload_len k)) (partners number k p)) n in
+        omega (arith, a, b, c, d, e, g);
     awaited =
-    let a = sum_by-append (λ c. where_true (is_await c) 1) (commands_before number p n) (sending number p n ∷ take i (more n)) in
-    let b = sum_by-cons (λ c. where_true (is_await c) 1) (sending number p n) (take i (more n)) in
-    let c = first_await (range_with_len (taken_before number p n) (length (partners number n p))) i is in
-    let d = all_await n in
-    let e = sum_by-below (λ j. length (partners number j p)) n in
-    let h = length-range_with_len (taken_before number p n) (length (partners number n p)) in
-    omega (arith, a, b, c, d, e, h);
+        let a = sum_by-append (λ c. where_true (is_await c) 1) (commands_before number p n) (sending number p n ∷ take i (more n)) in
+        let b = sum_by-cons (λ c. where_true (is_await c) 1) (sending number p n) (take i (more n)) in
+        let c = first_await (range_with_len (taken_before number p n) (length (partners number n p))) i is in
+        let d = all_await n in
+        let e = sum_by-below (λ j. length (partners number j p)) n in
+        let h = length-range_with_len (taken_before number p n) (length (partners number n p)) in
+        omega (arith, a, b, c, d, e, h);
   }
 
   pub waits_at : (n l : ℕ) → slice_get (commands_before number p n) l ≡ Some cmd.Await → Waits n (take l (commands_before number p n))

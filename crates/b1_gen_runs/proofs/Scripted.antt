@@ -236,7 +236,7 @@ module _ (number : ℕ) (s : State) (sound : IsSound (opening_of (peer_count num
     recorded_at : (x : PeerPart) → IsPeer s p x → calls_of (record_of_state s) p ≡ driver_calls d
     recorded_at x there = recorded_calls s p x d there is
 
-    peer_there : (x : PeerPart) × IsPeer s p x
+    pub peer_there : (x : PeerPart) × IsPeer s p x
     peer_there = (get_or s.peers p no_peer, slice_get-get_or s.peers p no_peer (let k = slice_get_within s.drivers p d is in let l = sound.numbered.as_many_drivers in let m = sound.numbered.as_many_peers in omega (arith, k, l, m)))
 
     not_short : (k : ℕ) (c : Call) → slice_get (driver_calls d) k ≡ Some c → IsShort c.answer → ⊥

@@ -3,6 +3,8 @@ ghost use Rattle.b1_model.specs.declared.records.Call.{Call};
 ghost use Rattle.b1_model.specs.Names.{calls_of};
 ghost use Rattle.b1_model.specs.MachineParts.{State};
 ghost use Rattle.b1_model.specs.MachineStep.{record_of_state};
+ghost use Rattle.b1_model.specs.MachineOrder.{Stuck};
+ghost use Rattle.b1_gen.specs.Generated.{generated};
 ghost use Rattle.b1_gen_runs.specs.Runs.{IsRun, IsSentToAll};
 
 /// Whatever the order of the steps of a generated script, as long as memory is wanting nowhere: each SEND that stands in
@@ -10,4 +12,10 @@ ghost use Rattle.b1_gen_runs.specs.Runs.{IsRun, IsSentToAll};
 pub fn generated_sends_are_accepted()
     ensures { (number p k : ℕ) (s : State) (c : Call) → IsRun number s
         → slice_get (calls_of (record_of_state s) p) k ≡ Some c → IsSentToAll c.command c.answer }
+{}
+
+/// No order of the steps of a generated script leads to a state in which no command is open and each peer whose commands
+/// aren't at their end waits at an AWAIT with an empty queue, as long as memory is wanting nowhere.
+pub fn generated_scripts_never_stall()
+    ensures { (number : ℕ) (s : State) → IsRun number s → Stuck (generated number).commands s → ⊥ }
 {}
