@@ -15,3 +15,4 @@ pub mod Numbers
 pub mod Prefixes
 pub mod Paired
 pub mod Stalls
+pub mod Totals

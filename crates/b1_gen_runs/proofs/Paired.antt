@@ -1,7 +1,7 @@
 -- What the calls of a peer come to, by the commands in whose places they stand.
-use Rattle.std.proofs.Common.{◌≡◌, refl, sym, ap, ◌∙◌, subst, ℕ, zero, suc, ◌+◌, ◌-◌, true, List, [], ◌∷◌, take, length, sum_by, Option, Some, None}
+use Rattle.std.proofs.Common.{◌≡◌, refl, sym, ap, ◌∙◌, subst, ℕ, zero, suc, ◌+◌, ◌-◌, ◌*◌, true, List, [], ◌∷◌, take, length, sum_by, Option, Some, None}
 use Rattle.std.specs.Prelude.{slice_get}
-use Rattle.std.proofs.lemmas.List.Sums.{sum_by-cons}
+use Rattle.std.proofs.lemmas.List.Sums.{sum_by-cons, sum_by-append}
 use native.Mathlib.Omega.{arith}
 use Rattle.b1_model.specs.declared.commands.Command.{Command}
 use Rattle.b1_model.specs.declared.commands.Command.TheVariants as cmd
@@ -19,6 +19,9 @@ use Rattle.b1_model.specs.MachineTook.{is_await}
 use Rattle.b1_step.specs.Rights.{Has}
 use Rattle.b1_step.proofs.Lists.{has_at}
 use Rattle.b1_play_commands.specs.Following.{AllInPlace}
+use Rattle.std.specs.List.{flat_map, range_with_len}
+use Rattle.b1_gen.specs.Generated.{below, partners, sending, taking, taken_before, phase_commands, commands_before}
+use Rattle.b1_gen.proofs.Rising.{commands_before-none, commands_before-more, sum_by-below}
 use Rattle.b1_gen_runs.specs.Sums.{where_true, brought_by, got_by}
 use Rattle.b1_gen_runs.specs.Phases.{IsGood}
 use Rattle.b1_gen_runs.specs.States.{one}
@@ -129,3 +132,47 @@ module _ (number p : ℕ) (commands : List Command) (scripted : (c : Command) �
 
   pub calls_take : ((c : Call) → Has calls c → IsGood c.command c.answer) → sum_by (λ (c : Call). got_by one c.answer) calls ≡ awaits (take (length calls) commands) + (length calls - length commands)
   calls_take good = sum_pairs_more (λ (c : Call). got_by one c.answer) (λ c. where_true (is_await c) 1) calls commands (λ k c is. call_takes number p (take k calls) (slice_get commands k) c (next_scripted k) (placed k c is) (good c (has_at calls k c is)))
+
+-- ---- a measure of commands by which only SENDs count
+
+pub record OnlySends (b : Command → ℕ) : Type 0 where
+  pub recv : b cmd.Recv ≡ 0
+  pub await : b cmd.Await ≡ 0
+  pub release : (offset : ℕ) → b (cmd.SliceRelease offset) ≡ 0
+
+module _ (number p : ℕ) (b : Command → ℕ) (only : OnlySends b) where
+  call_measures : (calls : List Call) (next : Option Command) (c : Call) → ((command : Command) → next ≡ Some command → IsScripted number p command) → IsInPlace calls next (Some c) → b c.command ≡ value_of b 0 next
+  call_measures calls None c scripted is = ap b is.0 ∙ only.recv
+  call_measures calls (Some cmd.Await) c scripted is = ap b is.0 ∙ only.recv ∙ sym only.await
+  call_measures calls (Some (cmd.Send s)) c scripted is =
+      let k = scripted (cmd.Send s) refl in
+      ap b (is.0 ∙ ap (λ command. resolved command calls) k.1 ∙ sending_resolved number p k.0 calls ∙ sym k.1)
+  call_measures calls (Some (cmd.SliceRelease offset)) c scripted is = ap b is.0 ∙ only.release (resolved_offset calls offset) ∙ sym (only.release offset)
+  call_measures calls (Some command) c scripted is = absurd (scripted command refl)
+
+  pub calls_measure : (commands : List Command) → ((c : Command) → Has commands c → IsScripted number p c) → (calls : List Call) → AllInPlace commands calls → sum_by (λ (c : Call). b c.command) calls ≡ sum_by b (take (length calls) commands)
+  calls_measure commands scripted calls placed = sum_pairs (λ (c : Call). b c.command) b calls commands (λ k c is. call_measures (take k calls) (slice_get commands k) c (λ command at. scripted command (has_at commands k command at)) (placed k c is))
+
+  takings_measure : (rs : List ℕ) → sum_by b (flat_map taking rs) ≡ 0
+  takings_measure [] = refl
+  takings_measure (r ∷ rs) =
+      let k = sum_by-cons b cmd.Await (cmd.SliceRelease (2 * r + 1) ∷ flat_map taking rs) in
+      let l = sum_by-cons b (cmd.SliceRelease (2 * r + 1)) (flat_map taking rs) in
+      let m = takings_measure rs in
+      let n = only.await in
+      let o = only.release (2 * r + 1) in
+      omega (arith, k, l, m, n, o)
+
+  pub all_measure : (n : ℕ) → sum_by b (commands_before number p n) ≡ sum_by (λ k. b (sending number p k)) (below n)
+  all_measure zero = ap (sum_by b) (commands_before-none number p)
+  all_measure (suc n) =
+      let a = ap (sum_by b) (ap (commands_before number p) (one_more n) ∙ commands_before-more number p n) in
+      let c = sum_by-append b (commands_before number p n) (phase_commands number p n) in
+      let d = sum_by-cons b (sending number p n) (flat_map taking (range_with_len (taken_before number p n) (length (partners number n p)))) in
+      let e = takings_measure (range_with_len (taken_before number p n) (length (partners number n p))) in
+      let f = all_measure n in
+      let g = ap (λ m. sum_by (λ k. b (sending number p k)) (below m)) (one_more n) ∙ sum_by-below (λ k. b (sending number p k)) n in
+      omega (arith, a, c, d, e, f, g)
+    where
+      one_more : (m : ℕ) → suc m ≡ m + 1
+      one_more m = omega arith

@@ -118,7 +118,7 @@ open_to_all number p bound me (cmd.Send s) phase plain going fit c has = absurd 
 open_to_all number p bound me command phase plain going fit c has = absurd (let e : false ≡ true = going_sends bound me command phase going in cc e)
 
 module _ (number : ℕ) (s : State) (run : IsRun number s) (p : ℕ) (d : DriverPart) (is : IsDriver s p d) where
-  answers : AnswersOf d
+  pub answers : AnswersOf d
   answers = reached_answered (opening_of (peer_count number)) s (valid number) run.reached p d is
 
   plain : IsPlainDriver number p d

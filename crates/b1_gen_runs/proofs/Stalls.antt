@@ -120,7 +120,7 @@ some_there : (next : Option Command) → next ≢ None → (c : Command) × (nex
 some_there None not_none = absurd (not_none refl)
 some_there (Some c) not_none = (c, refl)
 
-past_all : {X : Type 0} (xs : List X) (l : ℕ) → slice_get xs l ≡ None → take l xs ≡ xs
+pub past_all : {X : Type 0} (xs : List X) (l : ℕ) → slice_get xs l ≡ None → take l xs ≡ xs
 past_all [] zero none = refl
 past_all [] (suc l) none = refl
 past_all (x ∷ xs) zero none = absurd (cc none)

@@ -1,7 +1,7 @@
 -- What a run of a generated script comes to: functions of its number alone.
 use Rattle.std.specs.Prelude.{◌≡◌, ◌*◌, ℕ, length, sum_by}
-use Rattle.b1_model.specs.declared.records.Record.{Record}
 use Rattle.b1_model.specs.MachineParts.{DriverPart, State}
+use Rattle.b1_model.specs.MachineStep.{record_of_state}
 use Rattle.b1_inv.specs.Words.{IsDriver}
 use Rattle.b1_gen.specs.declared.counting.Quantity.TheVariants.{Sends, Entries, Receipts, Bytes}
 use Rattle.b1_gen.specs.declared.numbers.TheConstants.{PHASES}
@@ -29,9 +29,9 @@ abbrev pub bytes_due : ℕ → ℕ
 bytes_due number = all_due payload_len number
 
 -- the record of a state has these counts, and each peer has exactly its commands as calls
-pub record HasDue (number : ℕ) (r : Record) (s : State) : Type 0 where
-  pub sends : total Sends r ≡ sends_due number
-  pub entries : total Entries r ≡ messages_due number
-  pub receipts : total Receipts r ≡ messages_due number
-  pub bytes : total Bytes r ≡ bytes_due number
+pub record HasDue (number : ℕ) (s : State) : Type 0 where
+  pub sends : total Sends (record_of_state s) ≡ sends_due number
+  pub entries : total Entries (record_of_state s) ≡ messages_due number
+  pub receipts : total Receipts (record_of_state s) ≡ messages_due number
+  pub bytes : total Bytes (record_of_state s) ≡ bytes_due number
   pub calls : (p : ℕ) (d : DriverPart) → IsDriver s p d → length d.calls ≡ length (commands_of number p)

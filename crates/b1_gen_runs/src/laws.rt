@@ -3,8 +3,9 @@ ghost use Rattle.b1_model.specs.declared.records.Call.{Call};
 ghost use Rattle.b1_model.specs.Names.{calls_of};
 ghost use Rattle.b1_model.specs.MachineParts.{State};
 ghost use Rattle.b1_model.specs.MachineStep.{record_of_state};
-ghost use Rattle.b1_model.specs.MachineOrder.{Stuck};
+ghost use Rattle.b1_model.specs.MachineOrder.{Stuck, DrainedOf};
 ghost use Rattle.b1_gen.specs.Generated.{generated};
+ghost use Rattle.b1_gen_runs.specs.Counts.{HasDue};
 ghost use Rattle.b1_gen_runs.specs.Runs.{IsRun, IsSentToAll};
 
 /// Whatever the order of the steps of a generated script, as long as memory is wanting nowhere: each SEND that stands in
@@ -18,4 +19,11 @@ pub fn generated_sends_are_accepted()
 /// aren't at their end waits at an AWAIT with an empty queue, as long as memory is wanting nowhere.
 pub fn generated_scripts_never_stall()
     ensures { (number : ℕ) (s : State) → IsRun number s → Stuck (generated number).commands s → ⊥ }
+{}
+
+/// Whatever the order of the steps of a generated script, as long as memory is wanting nowhere: once all commands have
+/// ended and every queue is empty, each peer has exactly its commands as calls, so that nothing was left to be drained,
+/// and the counts of SENDs, of entries, of receipts and of their bytes are those that the number alone gives.
+pub fn generated_counts()
+    ensures { (number : ℕ) (s : State) → IsRun number s → DrainedOf (generated number).commands s → HasDue number s }
 {}

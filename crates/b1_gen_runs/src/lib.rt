@@ -3,4 +3,4 @@
 
 mod laws;
 
-pub use laws::{generated_scripts_never_stall, generated_sends_are_accepted};
+pub use laws::{generated_counts, generated_scripts_never_stall, generated_sends_are_accepted};
