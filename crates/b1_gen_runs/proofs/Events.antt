@@ -28,6 +28,7 @@ use Rattle.b1_inv_parts.proofs.PoolsKept.{at_own_offset}
 use Rattle.b1_gen_runs.specs.Parts.{Stands, longest, IsPlainEntry, HasPlain}
 use Rattle.b1_gen_runs.specs.Sums.{queued_one, queued, got_by}
 use Rattle.b1_gen_runs.specs.Phases.{IsGood, IsShort}
+use Rattle.b1_gen_runs.specs.States.{one}
 use Rattle.b1_gen_runs.proofs.Pools.{slice_small, taken_small, taken_few, published_small, published_few, back_small, back_few}
 
 -- a weight for each length of a message
@@ -37,10 +38,6 @@ Weight = ℕ → ℕ
 -- nothing, for each weight
 abbrev pub nothing : Weight → ℕ
 nothing f = 0
-
--- each message as one
-abbrev pub one : Weight
-one n = 1
 
 -- what an event leaves: what never changes stays, all is plain, and what is queued grows by what came and falls by what left
 pub record Effect (x y : PeerPart) (came left : Weight → ℕ) : Type 0 where

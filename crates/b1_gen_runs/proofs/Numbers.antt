@@ -1,14 +1,14 @@
 -- Sums over peers and phases: what is sent to a peer is what it takes, since two peers match both ways.
-use Rattle.std.proofs.Common.{◌≡◌, ◌≢◌, inl, inr, refl, sym, ap, ◌∙◌, subst, ℕ, zero, suc, ◌+◌, ◌<◌, ◌≤◌, ◌%◌, ◌==◌, Bool, true, false, cond, not, ◌&&◌, List, [], ◌∷◌, filter, length, sum_by, Some}
+use Rattle.std.proofs.Common.{◌≡◌, ◌*◌, ◌≢◌, inl, inr, refl, sym, ap, ◌∙◌, subst, ℕ, zero, suc, ◌+◌, ◌<◌, ◌≤◌, ◌%◌, ◌==◌, Bool, true, false, cond, not, ◌&&◌, List, [], ◌∷◌, filter, length, sum_by, Some}
 use Rattle.std.specs.Prelude.{slice_get}
 use Rattle.std.specs.List.{range_with_len}
 use Rattle.std.proofs.lemmas.Bool.{ne_eqb, eq-eqb, cases_eq}
 use Rattle.std.proofs.lemmas.List.Sums.{sum_by-cons}
+use Rattle.std.proofs.Math.Nat.{suc-mul, zero-mul, add_comm}
 use native.Mathlib.Omega.{arith}
 use Rattle.b1_step.specs.Rights.{Has}
 use Rattle.b1_gen.specs.Generated.{below, peer_count, partners, matches}
 use Rattle.b1_gen_runs.specs.Sums.{where_true}
-use Rattle.b1_gen_runs.specs.Counts.{due_before}
 use Rattle.b1_gen_runs.proofs.Bounds.{times}
 
 -- ---- sums
@@ -43,6 +43,15 @@ sum_swap f (x ∷ xs) ys =
     ∙ ap (λ n. sum_by (f x) ys + n) (sum_swap f xs ys)
     ∙ sym (sum_both (f x) (λ y. sum_by (λ x. f x y) xs) ys)
     ∙ sum_same (λ y. f x y + sum_by (λ x. f x y) xs) (λ y. sum_by (λ x. f x y) (x ∷ xs)) ys (λ y has. sym (sum_by-cons (λ x. f x y) x xs))
+
+-- the same for each element
+pub sum_each : (n : ℕ) (xs : List ℕ) → sum_by (λ x. n) xs ≡ length xs * n
+sum_each n [] = sym (zero-mul n)
+sum_each n (x ∷ xs) =
+    let k = sum_by-cons (λ (x : ℕ). n) x xs in
+    let l = sum_each n xs in
+    let m = suc-mul (length xs) n in
+    k ∙ ap (λ z. n + z) l ∙ add_comm n (length xs * n) ∙ sym m
 
 -- of a list that is as long as so many numbers
 pub sum_least : {X : Type 0} (f : X → ℕ) (g : ℕ → ℕ) (xs : List X) (from : ℕ) → ((i : ℕ) (x : X) → slice_get xs i ≡ Some x → g (from + i) ≤ f x) → sum_by g (range_with_len from (length xs)) ≤ sum_by f xs
@@ -146,6 +155,10 @@ match_swaps number k p q =
     turned a b c d = omega arith
 
 -- ---- what is sent to a peer
+
+-- what a peer takes in the first phases, where a message of each phase counts so much
+abbrev pub due_before : (ℕ → ℕ) → ℕ → ℕ → ℕ → ℕ
+due_before each number p phases = sum_by (λ k. sum_by (λ r. each k) (partners number k p)) (below phases)
 
 -- what a peer's SENDs of the first phases bring to another
 abbrev pub brings_before : (ℕ → ℕ) → ℕ → ℕ → ℕ → ℕ → ℕ

@@ -6,7 +6,7 @@ use Rattle.std.proofs.lemmas.Bool.{cases_lt}
 use Rattle.std.proofs.lemmas.Option.{same_Some, slice_get_within}
 use Rattle.std.proofs.lemmas.List.{length-map}
 use Rattle.std.proofs.lemmas.List.FromFn.{length-range_with_len}
-use Rattle.std.proofs.lemmas.List.Sums.{sum_by-cons}
+use Rattle.std.proofs.Math.Nat.{mul-one}
 use native.Mathlib.Omega.{arith}
 use Rattle.b1_model.specs.declared.commands.Command.{Command}
 use Rattle.b1_model.specs.declared.commands.Command.TheVariants as cmd
@@ -23,10 +23,9 @@ use Rattle.b1_gen.proofs.Rising.{sum_by-below}
 use Rattle.b1_gen_runs.specs.Sums.{brought_by, brought_so_far, sent, all_sent, queued_one, queued, got}
 use Rattle.b1_gen_runs.specs.States.{RunsWell, one}
 use Rattle.b1_gen_runs.specs.Runs.{IsRun}
-use Rattle.b1_gen_runs.specs.Counts.{due_before}
 use Rattle.b1_gen_runs.proofs.Openings.{and_parts}
 use Rattle.b1_gen_runs.proofs.Bounds.{times}
-use Rattle.b1_gen_runs.proofs.Numbers.{brings_before, both_ways, sum_least, sum_same}
+use Rattle.b1_gen_runs.proofs.Numbers.{due_before, brings_before, sum_each, both_ways, sum_least, sum_same}
 use Rattle.b1_gen_runs.proofs.Scripted.{commands_are, all_before, are_scripted, follows, peer_there}
 use Rattle.b1_gen_runs.proofs.Prefixes.{awaits, bring, Waits, waits_at, all_bring}
 use Rattle.b1_gen_runs.proofs.Paired.{calls_bring, calls_take}
@@ -34,13 +33,9 @@ use Rattle.b1_gen_runs.proofs.Reached.{run_sound, run_well}
 
 -- ---- sums
 
-pub sum_ones : (xs : List ℕ) → sum_by (λ x. 1) xs ≡ length xs
-sum_ones [] = refl
-sum_ones (x ∷ xs) = let k = sum_by-cons (λ (x : ℕ). 1) x xs in let l = sum_ones xs in omega (arith, k, l)
-
 -- a message that counts as one
 pub ones_due : (number p phases : ℕ) → due_before (λ k. 1) number p phases ≡ taken_before number p phases
-ones_due number p phases = sum_same (λ k. sum_by (λ r. 1) (partners number k p)) (λ k. length (partners number k p)) (below phases) (λ k has. sum_ones (partners number k p))
+ones_due number p phases = sum_same (λ k. sum_by (λ r. 1) (partners number k p)) (λ k. length (partners number k p)) (below phases) (λ k has. sum_each 1 (partners number k p) ∙ mul-one (length (partners number k p)))
 
 -- later phases bring no less
 brings_rise : (each : ℕ → ℕ) (number q p k j : ℕ) → brings_before each number q k p ≤ brings_before each number q (k + j) p

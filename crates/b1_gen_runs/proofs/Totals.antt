@@ -1,5 +1,5 @@
 -- What is counted of a drained run of a generated script.
-use Rattle.std.proofs.Common.{◌≡◌, refl, sym, ap, ◌∙◌, ℕ, zero, suc, ◌+◌, ◌-◌, ◌*◌, ◌<◌, ◌≤◌, true, cond, List, [], ◌∷◌, ◌++◌, take, length, sum_by, append-nil, Option, None}
+use Rattle.std.proofs.Common.{◌≡◌, get_or, subst, refl, sym, ap, ◌∙◌, ℕ, zero, suc, ◌+◌, ◌-◌, ◌*◌, ◌<◌, ◌≤◌, true, cond, List, [], ◌∷◌, ◌++◌, take, length, sum_by, append-nil, Option, None}
 use Rattle.std.specs.Prelude.{slice_get, is_none, count_by}
 use Rattle.std.specs.List.{list_all, range_with_len}
 use Rattle.std.proofs.lemmas.List.{length-map}
@@ -19,7 +19,11 @@ use Rattle.b1_model.specs.MachineParts.{PeerPart, DriverPart, State}
 use Rattle.b1_model.specs.MachineDriver.{send_of}
 use Rattle.b1_model.specs.MachineTook.{driver_calls, open_by}
 use Rattle.b1_model.specs.MachineOrder.{no_command_open, DrainedOf}
-use Rattle.b1_model.specs.MachineStep.{peer_records, record_of_state}
+use Rattle.b1_model.specs.MachineStep.{peer_records, record_of_state, idle_driver}
+use Rattle.b1_model.specs.Names.{calls_of}
+use Rattle.b1_inv_cover.proofs.Listed.{recorded_calls}
+use Rattle.b1_play_commands.specs.Following.{AllInPlace}
+use Rattle.std.proofs.lemmas.Option.{slice_get-get_or}
 use Rattle.b1_step.specs.Rights.{Has}
 use Rattle.b1_step.proofs.Lists.{has_left}
 use Rattle.b1_inv.specs.Words.{IsDriver}
@@ -33,9 +37,9 @@ use Rattle.b1_gen_runs.specs.Sums.{where_true, sent, all_sent, queued_one, queue
 use Rattle.b1_gen_runs.specs.Phases.{IsPlain, IsGood}
 use Rattle.b1_gen_runs.specs.States.{one}
 use Rattle.b1_gen_runs.specs.Runs.{IsRun, IsSentToAll}
-use Rattle.b1_gen_runs.specs.Counts.{due_before, HasDue}
+use Rattle.b1_gen_runs.specs.Counts.{sends_due, messages_due, bytes_due}
 use Rattle.b1_gen_runs.proofs.Openings.{and_parts}
-use Rattle.b1_gen_runs.proofs.Numbers.{brings_before, both_ways, sum_indexed, sum_same}
+use Rattle.b1_gen_runs.proofs.Numbers.{due_before, sum_each, brings_before, both_ways, sum_indexed, sum_same}
 use Rattle.b1_gen_runs.proofs.Scripted.{all_before, are_scripted, follows, peer_there, run_plain, send_often, sends_in, has_place}
 use Rattle.b1_gen_runs.proofs.Prefixes.{awaits, bring, all_bring, all_await}
 use Rattle.b1_gen_runs.proofs.Paired.{calls_measure, all_measure}
@@ -195,11 +199,37 @@ module _ (number : ℕ) (s : State) (run : IsRun number s) (drained : DrainedOf 
         ∙ sum_same (λ k. destinations (sending number p k)) (λ k. length (partners number k p)) (below PHASES) (λ k has. length-map (partners number k p) (handle_at p))
         ∙ sym (ones_due number p PHASES)
 
-  pub due : HasDue number s
-  due = record {
-    sends = total_by Sends (λ p. PHASES) sends_all ∙ sum_const 0 (peer_count number);
-    entries = total_by Entries (λ p. due_before (λ k. 1) number p PHASES) entries_all;
-    receipts = total_by Receipts (λ p. due_before (λ k. 1) number p PHASES) (λ p d is. sum_same (λ (c : Call). worth Receipts c.answer) (λ (c : Call). got_by one c.answer) d.calls (λ c has. receipt_worth c.answer) ∙ got_all p d is one);
-    bytes = total_by Bytes (λ p. due_before payload_len number p PHASES) (λ p d is. sum_same (λ (c : Call). worth Bytes c.answer) (λ (c : Call). got_by (λ n. n) c.answer) d.calls (λ c has. bytes_worth c.answer) ∙ got_all p d is (λ n. n));
-    calls = as_many_calls;
-  }
+  -- ---- the counts
+
+  pub sends_are : total Sends (record_of_state s) ≡ sends_due number
+  sends_are = total_by Sends (λ p. PHASES) sends_all ∙ sum_const 0 (peer_count number)
+
+  pub entries_are : total Entries (record_of_state s) ≡ messages_due number
+  entries_are = total_by Entries (λ p. taken_before number p PHASES) (λ p d is. entries_all p d is ∙ ones_due number p PHASES)
+
+  pub receipts_are : total Receipts (record_of_state s) ≡ messages_due number
+  receipts_are = total_by Receipts (λ p. taken_before number p PHASES) (λ p d is. sum_same (λ (c : Call). worth Receipts c.answer) (λ (c : Call). got_by one c.answer) d.calls (λ c has. receipt_worth c.answer) ∙ got_all p d is one ∙ ones_due number p PHASES)
+
+  pub bytes_are : total Bytes (record_of_state s) ≡ bytes_due number
+  bytes_are =
+      total_by Bytes (λ p. sum_by (λ k. length (partners number k p) * payload_len k) (below PHASES)) (λ p d is.
+      sum_same (λ (c : Call). worth Bytes c.answer) (λ (c : Call). got_by (λ n. n) c.answer) d.calls (λ c has. bytes_worth c.answer) ∙ got_all p d is (λ n. n)
+      ∙ sum_same (λ k. sum_by (λ (r : ℕ). payload_len k) (partners number k p)) (λ k. length (partners number k p) * payload_len k) (below PHASES) (λ k has. sum_each (payload_len k) (partners number k p)))
+
+  -- ---- the calls
+
+  module _ (p : ℕ) (within : p < peer_count number) where
+    there : (d : DriverPart) × IsDriver s p d
+    there = (get_or s.drivers p (idle_driver 0), slice_get-get_or s.drivers p (idle_driver 0) (let k = as_many number s run quiet in omega (arith, k, within)))
+
+    calls_are : calls_of (record_of_state s) p ≡ there.0.calls
+    calls_are =
+        let x = peer_there number s (sound number s run quiet) run p there.0 there.1 in
+        recorded_calls s p x.0 there.0 x.1 there.1
+        ∙ ap (λ (doing : Option Doing). there.0.calls ++ open_by doing) (idle_at s.drivers quiet p there.0 there.1) ∙ append-nil there.0.calls
+
+    pub no_more_calls : length (calls_of (record_of_state s) p) ≡ length (commands_of_peer number p)
+    no_more_calls = ap length calls_are ∙ as_many_calls p there.0 there.1
+
+    pub calls_in_place : AllInPlace (commands_of_peer number p) (calls_of (record_of_state s) p)
+    calls_in_place = subst (AllInPlace (commands_of_peer number p)) (sym calls_are) (follows number s (sound number s run quiet) run p there.0 there.1).calls

@@ -8,6 +8,7 @@ use Rattle.b1_model.specs.declared.answers.Answer.TheVariants as answer
 use Rattle.b1_model.specs.declared.records.Record.{Record}
 use Rattle.b1_model.specs.MachineParts.{State}
 use Rattle.b1_model.specs.MachineStep.{Reached, record_of_state}
+use Rattle.b1_model.specs.MachineOrder.{DrainedOf}
 use Rattle.b1_schedule.specs.Shortage.{shortage_of}
 use Rattle.b1_play_commands.specs.Following.{AllFollow}
 use Rattle.b1_gen.specs.Generated.{generated}
@@ -21,6 +22,11 @@ pub record IsRun (number : ℕ) (s : State) : Type 0 where
   pub reached : Reached (generated number).opening s
   pub follows : AllFollow (generated number).commands s
   pub memory : HasMemory (record_of_state s)
+
+-- a run in which all commands have ended, and all queues are empty
+pub record IsWholeRun (number : ℕ) (s : State) : Type 0 where
+  pub run : IsRun number s
+  pub drained : DrainedOf (generated number).commands s
 
 -- a SEND was sent, and each of its destinations has accepted it
 abbrev pub IsSentToAll : Command → Answer → Type 0
