@@ -233,3 +233,14 @@ module _ (number : ℕ) (s : State) (run : IsRun number s) (drained : DrainedOf 
 
     pub calls_in_place : AllInPlace (commands_of_peer number p) (calls_of (record_of_state s) p)
     calls_in_place = subst (AllInPlace (commands_of_peer number p)) (sym calls_are) (follows number s (sound number s run quiet) run p there.0 there.1).calls
+
+-- ---- the counts of one number
+
+seven_sends : sends_due 7 ≡ 1536
+seven_sends = refl
+
+seven_messages : messages_due 7 ≡ 5120
+seven_messages = refl
+
+seven_bytes : bytes_due 7 ≡ 184320
+seven_bytes = refl
