@@ -137,8 +137,16 @@ impl Closed {
     pub fn facts(&self)
         ensures reached { Reached self.now.opening (state_of self.now.peers self.now.drivers) }
         ensures closed { All (λ d. d.part.doing ≡ None) self.now.drivers }
+        ensures as_many { length self.now.drivers ≡ length self.now.peers }
     {
         let _ = &self.opening;
+    }
+
+    /// How many peers there are.
+    pub fn count(&self) -> u32
+        ensures { result ≡ length self.now.peers }
+    {
+        self.peers.len() as u32
     }
 
     /// Whether the queue of peer p is empty.

@@ -22,7 +22,7 @@ use Rattle.b1_model.specs.declared.answers.Reason.{Reason}
 use Rattle.b1_model.specs.declared.answers.Reason.TheVariants as reason
 use Rattle.b1_model.specs.MachineStep.{Step, LocalStep, begun_by, done_by, effect_by, effect, aimed, target}
 use Rattle.b1_step.proofs.Steps.{reached_more}
-use Rattle.b1_step.proofs.Locality.{own_driver}
+use Rattle.b1_step.proofs.Locality.{own_driver, step_grows}
 use Rattle.b1_inv_answers.specs.Answers.{IsAnswered}
 use Rattle.b1_inv_answers.proofs.Answered.{reached_answered}
 use Rattle.b1_commands.specs.Done.{is_shut_reason, is_shutdown, leaves, Moves, GoesOn, Comes, Called, Waited, HasEnded}
@@ -99,6 +99,10 @@ next_stage o d c m f k moves =
 none_goes : (o : Opening) (m f : DriverPart) → m.doing ≡ None → Moves o m None f → ⊥
 none_goes o m f idle moves = let step = moves.step in cc (sym (ap (λ b. option_map aimed (begun_by m b None)) idle) ∙ ap (λ z. target z None) (sym moves.from) ∙ step.is_target)
 
+pub stays_closed : (o : Opening) (n : ℕ) (m f : DriverPart) → m.doing ≡ None → GoesOn o n m f → f ≡ m
+stays_closed o zero m f idle same = sym same
+stays_closed o (suc n) m f idle (l, before, moves) = absurd (none_goes o l f (ap (λ z. z.doing) (stays_closed o n m l idle before) ∙ idle) moves)
+
 goes_on : (o : Opening) (d : DriverPart) (c : Command) (n : ℕ) (m f : DriverPart) → Stage d c m → GoesOn o n m f → Stage d c f
 goes_on o d c zero m f k same = subst (Stage d c) same k
 goes_on o d c (suc n) m f k (l, before, moves) = elim (goes_on o d c n m l k before) [
@@ -127,6 +131,18 @@ last_is : (calls : List Call) (call : Call) → slice_get (calls ++ call ∷ [])
 last_is [] call = refl
 last_is (c ∷ cs) call = last_is cs call
 
+-- ---- the driver's number stays
+
+moved_me : (o : Opening) (d : DriverPart) (command : Option Command) (e : DriverPart) → Moves o d command e → e.me ≡ d.me
+moved_me o d command e m = ap (λ z. z.me) (sym m.to) ∙ (step_grows m.step).me ∙ ap (λ z. z.me) m.from
+
+went_me : (o : Opening) (n : ℕ) (d e : DriverPart) → GoesOn o n d e → e.me ≡ d.me
+went_me o zero d e same = ap (λ z. z.me) (sym same)
+went_me o (suc n) d e (m, before, moves) = moved_me o m None e moves ∙ went_me o n d m before
+
+came_me : (o : Opening) (d : DriverPart) (c : Command) (e : DriverPart) → Comes o d c e → e.me ≡ d.me
+came_me o d c e comes = went_me o comes.count comes.first e comes.goes ∙ moved_me o d (Some c) comes.first comes.begins
+
 -- ---- the end
 
 await_is : (c : Command) (got : Answer) → is_waiting c got ≡ true → c ≡ cmd.Await
@@ -146,7 +162,7 @@ waits_open c got is = by (is_await c) is
     by true is = absurd (cc is)
     by false is = absurd (cc is)
 
-module _ (d : DriverPart) (c : Command) (e : DriverPart) (over : IsOver d c e) (all : (k : ℕ) (call : Call) → slice_get e.calls k ≡ Some call → IsAnswered call) where
+module _ (d : DriverPart) (c : Command) (e : DriverPart) (over : IsOver d c e) (me : e.me ≡ d.me) (all : (k : ℕ) (call : Call) → slice_get e.calls k ≡ Some call → IsAnswered call) where
   over_by : (b : Bool) → is_waiting c over.got ≡ b → HasEnded d c e
   over_by false is =
       let calls : e.calls ≡ d.calls ++ record { command = as_call c; answer = over.got } ∷ [] = over.calls ∙ ap (λ b. d.calls ++ cond b [] (record { command = as_call c; answer = over.got } ∷ [])) is in
@@ -154,6 +170,7 @@ module _ (d : DriverPart) (c : Command) (e : DriverPart) (over : IsOver d c e) (
       inl (
         over.got,
         record {
+          me = me;
           calls = calls;
           kind = all (length d.calls) (record { command = as_call c; answer = over.got }) (ap (λ l. slice_get l (length d.calls)) calls ∙ last_is d.calls (record { command = as_call c; answer = over.got }));
           taken = is;
@@ -172,6 +189,7 @@ module _ (d : DriverPart) (c : Command) (e : DriverPart) (over : IsOver d c e) (
         front,
         removed,
         record {
+          me = me;
           calls = over.calls ∙ ap (λ b. d.calls ++ cond b [] (record { command = as_call c; answer = over.got } ∷ [])) is ∙ append-nil d.calls;
           open_at = open_at;
           shut = over.right.shut ∙ ap (λ b. b || leaves c over.got) open_at ∙ ap (λ z. leaves z over.got) (await_is c over.got is) ∙ await_stays over.got;
@@ -187,5 +205,5 @@ module _ (d : DriverPart) (c : Command) (e : DriverPart) (over : IsOver d c e) (
 pub ended_so : (o : Opening) (d : DriverPart) (c : Command) (e : DriverPart) → IsOpening o → d.doing ≡ None → Comes o d c e → e.doing ≡ None → HasEnded d c e
 ended_so o d c e opening idle comes closed = elim (comes_to o d c e idle comes) [
   | inl under ↦ absurd (cc (sym under.doing ∙ closed))
-  | inr over ↦ over_by d c e over (all_answered o d c e opening comes) (is_waiting c over.got) refl
+  | inr over ↦ over_by d c e over (came_me o d c e comes) (all_answered o d c e opening comes) (is_waiting c over.got) refl
 ]

@@ -84,6 +84,7 @@ leaves c a = is_disconnect c
 
 -- a driver has one call more: the command with its answer, an AWAIT as a RECV; it is no attempt that waits, its refusals are right, it is refused for a disconnect exactly where the driver was shut, and only an accepted disconnect shuts the driver
 pub record Called (d : DriverPart) (c : Command) (got : Answer) (e : DriverPart) : Type 0 where
+  pub me : e.me ≡ d.me
   pub calls : e.calls ≡ d.calls ++ record { command = as_call c; answer = got } ∷ []
   pub kind : IsAnswered (record { command = as_call c; answer = got })
   pub taken : is_waiting c got ≡ false
@@ -95,6 +96,7 @@ pub record Called (d : DriverPart) (c : Command) (got : Answer) (e : DriverPart)
 
 -- an attempt that waits: no call; the driver's facts have the front that it found and how many entries it removed, and the count of such attempts rises unless it stands at its end
 pub record Waited (d : DriverPart) (front : Front) (removed : ℕ) (e : DriverPart) : Type 0 where
+  pub me : e.me ≡ d.me
   pub calls : e.calls ≡ d.calls
   pub open_at : d.shut ≡ false
   pub shut : e.shut ≡ false

@@ -1,5 +1,6 @@
 pub mod Faces
 pub mod Locks
+pub mod Calls
 pub use Rattle.b1_event.specs.Borne
 pub use Rattle.b1_model.specs.MachineParts
 pub use Rattle.b1_model.specs.MachineStep

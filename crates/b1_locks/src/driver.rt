@@ -6,7 +6,7 @@ ghost use Rattle.b1_locks.specs.Faces.{IsIdle, StandsIn};
 
 use crate::bus::Place;
 use b1_driver::DriverState;
-use b1_model::Call;
+use b1_model::{Call, Front};
 use b1_pool::PoolKind;
 use b1_queue::QueueKind;
 use std::alloc::AllocError;
@@ -119,5 +119,13 @@ impl<Q: QueueKind, P: PoolKind> Driver<Q, P> {
         ensures { result ≡ self.now.own.part.shut }
     {
         self.hand.state.is_shut()
+    }
+
+    /// The front that the last attempt which had to wait found, and how many entries it removed; `None` where there was no
+    /// such attempt.
+    pub fn attempted(&self) -> Option<(Front, u64)>
+        ensures { result ≡ self.now.own.part.attempted }
+    {
+        self.hand.state.attempted()
     }
 }

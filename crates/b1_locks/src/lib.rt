@@ -5,10 +5,14 @@
 //! and gives the lock back by one store, which is the event. It holds one lock at most.
 #![tactic(auto)]
 
+mod answers;
 mod bus;
+mod commands;
 mod driver;
 mod event;
+mod finish;
 mod locks;
+mod receive;
 mod run;
 mod short;
 
