@@ -1,27 +1,22 @@
 -- A driver that has done a command whole.
-use Rattle.std.proofs.Common.{◌≡◌, ◌⊎◌, refl, sym, ap, ◌∙◌, inl, inr, subst, ℕ, ◌+◌, ◌<◌, ◌≤◌, Ok, Err, true, false, List, [], ◌∷◌, ◌++◌, length}
+use Rattle.std.proofs.Common.{◌≡◌, refl, sym, ap, ◌∙◌, inl, inr, ◌+◌, ◌<◌, Ok, Err, false, [], ◌∷◌, ◌++◌, length}
 use Rattle.std.proofs.lemmas.List.{length-append}
 use native.Mathlib.Omega.{arith}
 use Rattle.atomic_table.specs.Seated.{TableId}
 use Rattle.b1_model.specs.declared.naming.Opening.{Opening}
 use Rattle.b1_model.specs.declared.answers.Answer.{Answer}
 use Rattle.b1_model.specs.declared.answers.Answer.TheVariants as answer
-use Rattle.b1_model.specs.declared.answers.Front.{Front}
-use Rattle.b1_model.specs.declared.answers.Reason.{Reason}
-use Rattle.b1_model.specs.declared.answers.Reason.TheVariants as reason
-use Rattle.b1_model.specs.declared.answers.Tried.{Tried}
-use Rattle.b1_model.specs.declared.answers.Tried.TheVariants.{Got, Shut, Waiting}
 use Rattle.b1_inv_answers.specs.Answers.{IsAnswered}
 use Rattle.b1_model.specs.declared.commands.Command.{Command}
 use Rattle.b1_model.specs.declared.commands.Command.TheVariants as cmd
 use Rattle.b1_model.specs.declared.records.Call.{Call}
 use Rattle.b1_model.specs.MachineParts.{DriverPart}
-use Rattle.b1_model.specs.MachineTook.{is_await, is_again, as_call}
+use Rattle.b1_model.specs.MachineTook.{is_await, as_call}
 use Rattle.b1_driver.specs.Parts.{Driver}
-use Rattle.b1_edge.specs.Ports.{with_call, refused_with}
-use Rattle.b1_commands.specs.Done.{Comes, Called, Waited, HasEnded, RefusesRight, may_refuse}
+use Rattle.b1_edge.specs.Ports.{with_call}
+use Rattle.b1_commands.specs.Done.{Comes, Called, HasEnded, RefusesRight}
 use Rattle.b1_locks.specs.Faces.{DriverFace, member}
-use Rattle.b1_locks.specs.Calls.{Did, IsTried, HasTried, Waits, Shows, got_answer}
+use Rattle.b1_locks.specs.Calls.{Did, Shows, got_answer}
 
 pub same_member : (t u : TableId) (a b : Opening) (d e : Driver) → t ≡ u → a ≡ b → d.part.me ≡ e.part.me → member (record { table = t; opening = a; own = d }) ≡ member (record { table = u; opening = b; own = e })
 same_member t u a b d e table opening me = λ i. record { table = table i; opening = opening i; number = me i }

@@ -1,5 +1,5 @@
 -- A command begins at a driver, and goes on.
-use Rattle.std.proofs.Common.{◌≡◌, ◌⊎◌, inl, inr, ℕ, [], Err, refl, sym, ap, ◌∙◌, ◌+◌, true, false, length, Option, Some, None, Bor, is_some, option_copied}
+use Rattle.std.proofs.Common.{◌≡◌, ◌⊎◌, inl, inr, ℕ, [], Err, refl, sym, ap, ◌∙◌, true, false, length, Option, Some, None, Bor, is_some, option_copied}
 use native.Mathlib.Omega.{arith}
 use Rattle.b1_model.specs.declared.naming.Opening.{Opening}
 use Rattle.b1_model.specs.declared.commands.Command.{Command}
@@ -23,7 +23,7 @@ use Rattle.b1_inv_tools.proofs.Facts.{next_of}
 use Rattle.b1_edge.specs.Ports.{with_call}
 use Rattle.b1_commands.specs.Done.{GoesOn}
 use Rattle.b1_commands.proofs.Ended.{stays_closed}
-use Rattle.b1_model.specs.MachineStep.{Reached, begun, begun_by}
+use Rattle.b1_model.specs.MachineStep.{Reached, begun_by}
 use Rattle.b1_driver.specs.Parts.{Driver, command_of}
 use Rattle.b1_rule.specs.Rule.{holding}
 use Rattle.b1_locks.specs.Faces.{IsIdle, StandsIn}

@@ -1,5 +1,5 @@
 -- What a command that was done leaves of its driver, and which answers the commands have.
-use Rattle.std.specs.Prelude.{◌≡◌, ⊤, ℕ, ◌+◌, ◌-◌, ◌^◌, min, false, ◌||◌, List, Option, Some, None, Result, Ok, Err}
+use Rattle.std.specs.Prelude.{◌≡◌, ⊤, ℕ, ◌+◌, ◌-◌, ◌^◌, ◌≤◌, length, min, false, ◌||◌, Option, Some, Result, Ok, Err}
 use Rattle.b1_model.specs.declared.naming.PeerSpec.{PeerSpec}
 use Rattle.b1_model.specs.declared.answers.Answer.{Answer}
 use Rattle.b1_model.specs.declared.answers.Answer.TheVariants as answer
@@ -11,9 +11,12 @@ use Rattle.b1_model.specs.declared.answers.Tried.TheVariants.{Got, Shut, Waiting
 use Rattle.b1_model.specs.declared.commands.Command.{Command}
 use Rattle.b1_model.specs.declared.commands.Command.TheVariants as cmd
 use Rattle.b1_model.specs.declared.answers.Receipt.{Receipt}
+use Rattle.b1_model.specs.declared.answers.Refused.{Refused}
+use Rattle.b1_model.specs.declared.commands.SendCmd.{SendCmd}
+use Rattle.std.specs.Borrow.{Bor}
 use Rattle.b1_model.specs.MachineTook.{as_call}
 use Rattle.b1_inv_answers.specs.Answers.{IsAnswered}
-use Rattle.b1_edge.specs.Ports.{refused_with, with_call}
+use Rattle.b1_edge.specs.Ports.{received_answer, refused_with, with_call}
 use Rattle.b1_commands.specs.Done.{Comes, RefusesRight, is_shutdown, leaves}
 use Rattle.b1_locks.specs.Faces.{DriverFace, member}
 
@@ -70,3 +73,16 @@ abbrev pub HasTried : DriverFace → Tried → DriverFace → Type 0
 HasTried d Got e = (receipt : Receipt) × (e.own.part.calls ≡ with_call cmd.Recv (answer.Got receipt) d.own.part.calls) × Did d cmd.Await (answer.Got receipt) e
 HasTried d Shut e = (e.own.part.calls ≡ with_call cmd.Recv (refused_with Shutdown) d.own.part.calls) × Did d cmd.Await (refused_with Shutdown) e
 HasTried d (Waiting front removed) e = Waits d front removed e
+
+-- a list of so many places holds what each destination of a SEND answered
+abbrev pub FitsIn : ℕ → Answer → Type 0
+FitsIn n (answer.Sent b) = length b.places ≤ n
+FitsIn n got = ⊤
+
+-- a driver has done a SEND that was refused
+abbrev pub RefusesSend : DriverFace → SendCmd → DriverFace → Type 0
+RefusesSend d s e = (b : Refused) × (e.own.part.calls ≡ with_call (cmd.Send s) (answer.Refused b) d.own.part.calls) × Did d (cmd.Send s) (answer.Refused b) e
+
+-- a driver has done a RECV, whose answer is lent out of its list
+abbrev pub HasReceived : DriverFace → Result (Bor Receipt) Reason → DriverFace → Type 0
+HasReceived d result e = (e.own.part.calls ≡ with_call cmd.Recv (received_answer result) d.own.part.calls) × Did d cmd.Recv (received_answer result) e

@@ -1,4 +1,4 @@
-use Rattle.std.proofs.Common.{◌≡◌, ◌∙◌, ◌+◌, refl, ap, length, Some, arith}
+use Rattle.std.proofs.Common.{refl, ap, length, Some, arith}
 use Rattle.b1_model.specs.declared.commands.Command.TheVariants as cmd
 use Rattle.b1_rule.specs.Rule.{holding}
 use Rattle.b1_locks.proofs.Runs.{begins_here, owes_nothing, begins_next, refused_begin}

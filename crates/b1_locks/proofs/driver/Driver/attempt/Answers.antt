@@ -1,4 +1,4 @@
-use Rattle.std.proofs.Common.{◌≡◌, ◌<◌, sym, ap, ◌∙◌, subst, length, arith}
+use Rattle.std.proofs.Common.{◌<◌, sym, ap, subst, length, arith}
 use Rattle.b1_model.specs.declared.commands.Command.TheVariants as cmd
 use Rattle.b1_locks.specs.Calls.{got_answer, Shows}
 use Rattle.b1_locks.proofs.Finished.{called_once, await_shows}
