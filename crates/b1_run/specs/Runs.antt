@@ -32,7 +32,7 @@ use Rattle.b1_run.specs.declared.running.PassEnd.TheVariants as pass
 pub record IsDone (s : Script) (r : Record) : Type 0 where
   pub state : State
   pub reached : Reached s.opening state
-  pub follows : AllFollowIn s.commands state
+  pub following : AllFollowIn s.commands state
   pub drained : DrainedOf s.commands state
   pub record_is : r ≡ record_of_state state
   pub legal : Legal s.opening r
@@ -43,7 +43,7 @@ pub record IsDone (s : Script) (r : Record) : Type 0 where
 pub record IsStalled (s : Script) (waiting : List ℕ) (r : Record) : Type 0 where
   pub state : State
   pub reached : Reached s.opening state
-  pub follows : AllFollowIn s.commands state
+  pub following : AllFollowIn s.commands state
   pub stuck : Stuck s.commands state
   pub waiting_is : waiting ≡ waiting_peers s.commands state
   pub record_is : r ≡ record_of_state state
