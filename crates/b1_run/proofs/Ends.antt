@@ -178,6 +178,7 @@ module _ (s : Script) (c : ClosedFace) (r : Record) (reached : Reached c.opening
       record {
         state = t;
         reached = there;
+        following = λ p d is. all_follow s.commands c.peers c.drivers closed at_end.closed.follows p d is;
         drained = record { drained = drained; ended = λ p d is. end p d is };
         record_is = record_is;
         legal = subst (λ (o : Opening). Legal o r) at_end.closed.opening legal;
@@ -192,6 +193,7 @@ module _ (s : Script) (c : ClosedFace) (r : Record) (reached : Reached c.opening
       record {
         state = t;
         reached = subst (λ (o : Opening). Reached o t) at_stall.closed.opening reached;
+        following = λ p d is. all_follow s.commands c.peers c.drivers closed at_stall.closed.follows p d is;
         stuck = at_stall.stuck;
         waiting_is = same ∙ at_stall.waiting_is;
         record_is = record_is;

@@ -11,6 +11,7 @@ use Rattle.b1_model.specs.MachineStep.{Reached, record_of_state}
 use Rattle.b1_schedule.specs.Schedule.{waiting_peers}
 use Rattle.b1_schedule.specs.Shortage.{shortage_of}
 use Rattle.b1_play_commands.specs.Following.{AllInPlace}
+use Rattle.b1_play_commands.specs.Following.{AllFollow as AllFollowIn}
 use Rattle.b1_script.specs.declared.script.Script.{Script}
 use Rattle.b1_rule.specs.Rule.{state_of}
 use Rattle.b1_locks.specs.Faces.{ClosedFace}
@@ -31,6 +32,7 @@ use Rattle.b1_run.specs.declared.running.PassEnd.TheVariants as pass
 pub record IsDone (s : Script) (r : Record) : Type 0 where
   pub state : State
   pub reached : Reached s.opening state
+  pub following : AllFollowIn s.commands state
   pub drained : DrainedOf s.commands state
   pub record_is : r ≡ record_of_state state
   pub legal : Legal s.opening r
@@ -41,6 +43,7 @@ pub record IsDone (s : Script) (r : Record) : Type 0 where
 pub record IsStalled (s : Script) (waiting : List ℕ) (r : Record) : Type 0 where
   pub state : State
   pub reached : Reached s.opening state
+  pub following : AllFollowIn s.commands state
   pub stuck : Stuck s.commands state
   pub waiting_is : waiting ≡ waiting_peers s.commands state
   pub record_is : r ≡ record_of_state state
