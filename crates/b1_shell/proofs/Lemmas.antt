@@ -195,5 +195,5 @@ same_soak words n k a b = decimal_injective n k (omega (arith, a.0)) (omega (ari
 pub run_or_soak : (words : List (List ℕ)) (n : ℕ) → threads.Asks words Run → threads.Asks words (Soak n) → ⊥
 run_or_soak words n a b = lengths (ap length (sym a ∙ b.1))
   where
-    lengths : 1 ≡ 2 → ⊥
+    lengths : ◌≡◌ {A = ℕ} 1 2 → ⊥
     lengths e = cc e
