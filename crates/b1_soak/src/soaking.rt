@@ -3,7 +3,6 @@ ghost use Rattle.b1_gen.specs.Generated.{generated};
 ghost use Rattle.b1_run.specs.Runs.{IsDone};
 ghost use Rattle.b1_soak.specs.Soaks.{IsSoak};
 
-use crate::laws::{a_done_run_is_whole, every_count_is_small, no_run_stalls};
 use b1_edge::Gate;
 use b1_gen::{count_all, generate, summary};
 use b1_model::Record;
@@ -25,7 +24,6 @@ pub fn soak<R: Threads + Wait + Sync, G: Gate + Sync>(
 ) -> Result<Vec<u8>, AllocError>
     ensures { IfOk result (λ line. IsSoak number line.items) }
 {
-    no_run_stalls();
     let script = generate(alloc, number)?;
     match run(rt, alloc, gate, &script)? {
         Ran::Done(run) => told(alloc, number, &script, &run),
@@ -44,8 +42,6 @@ fn told(
     requires done { IsDone (generated number) run.now }
     ensures { IfOk result (λ line. IsSoak number line.items) }
 {
-    a_done_run_is_whole();
-    every_count_is_small();
     if has_shortage(run) {
         return Err(AllocError);
     }
