@@ -1,13 +1,11 @@
 -- A run of a generated script that ended, and what is counted in it.
-use Rattle.std.proofs.Common.{◌≡◌, inl, inr, mul-le-mul, refl, sym, ap, ◌∙◌, subst, ℕ, ◌+◌, ◌*◌, ◌^◌, ◌%◌, ◌≤◌, ◌<◌, false, List, length, slice_get, sum_by, Option, Some, None, arith}
+use Rattle.std.proofs.Common.{◌≡◌, inl, inr, mul-le-mul, sym, ap, ◌∙◌, subst, ℕ, ◌*◌, ◌%◌, ◌≤◌, ◌<◌, List, length, slice_get, sum_by, Some, None, arith}
 use Rattle.std.specs.Prelude.{IfOk, Result, Ok, Err}
-use Rattle.std.specs.List.{range_with_len}
 use Rattle.std.proofs.lemmas.List.Sums.{sum_by-le-sum_by}
 use Rattle.std.proofs.lemmas.List.FromFn.{length-range_with_len}
 use Rattle.std.proofs.lemmas.Nat.{mod_below}
 use Rattle.b1_model.specs.declared.records.Record.{Record}
 use Rattle.b1_model.specs.Names.{calls_of}
-use Rattle.b1_model.specs.MachineStep.{record_of_state}
 use Rattle.b1_gen.specs.declared.numbers.TheConstants.{PHASES}
 use Rattle.b1_gen.specs.declared.counting.Counts.{Counts}
 use Rattle.b1_gen.specs.declared.counting.Quantity.TheVariants.{Sends, Entries, Receipts, Bytes}
@@ -15,7 +13,7 @@ use Rattle.b1_gen.specs.Counted.{HasCounts, total, summary_line}
 use Rattle.b1_gen.specs.Generated.{below, commands_of, generated, matches, partners, payload_len, peer_count}
 use Rattle.b1_gen.proofs.Rising.{filter-few}
 use Rattle.b1_gen_runs.specs.Counts.{sends_due, messages_due, bytes_due}
-use Rattle.b1_gen_runs.specs.Runs.{HasMemory, IsRun, IsWholeRun}
+use Rattle.b1_gen_runs.specs.Runs.{HasMemory, IsWholeRun}
 use Rattle.b1_gen_runs.proofs.Numbers.{sum_each}
 use Rattle.b1_gen_runs.proofs.Reached.{to_all}
 use Rattle.b1_gen_runs.proofs.Stalls.{never}
@@ -49,14 +47,14 @@ few_sends number = let few = few_peers number in omega (arith, few)
 pub few_messages : (number : ℕ) → messages_due number ≤ 16384
 few_messages number =
     let all : messages_due number ≤ peer_count number * 2048 = sum_most (λ p. sum_by (λ k. length (partners number k p)) (below PHASES)) 2048 (peer_count number)
-          (λ p. sum_most (λ k. length (partners number k p)) 8 PHASES (λ k. few_partners number k p)) in
+    (λ p. sum_most (λ k. length (partners number k p)) 8 PHASES (λ k. few_partners number k p)) in
     let few = few_peers number in
     omega (arith, all, few)
 
 pub few_in_all : (number : ℕ) → bytes_due number ≤ 1048576
 few_in_all number =
     let all : bytes_due number ≤ peer_count number * 131072 = sum_most (λ p. sum_by (λ k. length (partners number k p) * payload_len k) (below PHASES)) 131072 (peer_count number)
-          (λ p. sum_most (λ k. length (partners number k p) * payload_len k) 512 PHASES (λ k. mul-le-mul (few_partners number k p) (few_bytes k))) in
+    (λ p. sum_most (λ k. length (partners number k p) * payload_len k) 512 PHASES (λ k. mul-le-mul (few_partners number k p) (few_bytes k))) in
     let few = few_peers number in
     omega (arith, all, few)
 

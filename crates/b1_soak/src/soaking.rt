@@ -32,12 +32,7 @@ pub fn soak<R: Threads + Wait + Sync, G: Gate + Sync>(
 }
 
 /// The line of a run that ended, if its record shows no SEND that was refused for memory; else want of memory.
-fn told(
-    alloc: Global,
-    number: u32,
-    script: &Script,
-    run: &Record,
-) -> Result<Vec<u8>, AllocError>
+fn told(alloc: Global, number: u32, script: &Script, run: &Record) -> Result<Vec<u8>, AllocError>
     requires script { script.now ≡ generated number }
     requires done { IsDone (generated number) run.now }
     ensures { IfOk result (λ line. IsSoak number line.items) }

@@ -1,4 +1,4 @@
-use Rattle.std.proofs.Common.{ap, subst, sym, ◌∙◌}
+use Rattle.std.proofs.Common.{subst}
 use Rattle.b1_script.specs.declared.script.Script.{Script}
 use Rattle.b1_run.specs.Runs.{RunsAsPromised, IsStalled}
 use Rattle.b1_run.specs.declared.running.Ran.{Ran}

@@ -1,6 +1,6 @@
-use Rattle.std.proofs.Common.{◌≡◌, ℕ, ◌≤◌, List, length, map, sym, ap, ◌∙◌, subst, arith}
+use Rattle.std.proofs.Common.{◌≡◌, ℕ, ◌≤◌, length, ap, ◌∙◌, arith}
 use Rattle.std.proofs.lemmas.List.FromFn.{length-map-range_with_len}
-use Rattle.b1_gen.specs.Counted.{HasCounts, summary_line}
+use Rattle.b1_gen.specs.Counted.{summary_line}
 use Rattle.b1_gen.specs.Generated.{generated, peer_count, peer_spec}
 use Rattle.b1_script.specs.declared.script.Script.{Script}
 use Rattle.b1_soak.specs.Soaks.{IsSoak}
@@ -25,6 +25,6 @@ pub returns : goal.returns
 returns c =
     let peers : c.len.result ≡ peer_count c.args.number = peers_are c.args.number c.args.script.now c.len.result c.len.ensures c.requires.script in
     if_ok (λ line. line.items ≡ summary_line c.args.number c.len.result c.in-Some.counts) (λ line. IsSoak c.args.number line.items) c.summary.result
-      (λ line is. is_soak c.args.number c.args.run.now c.requires.done (λ p k place. c.has_shortage.ensures.nowhere c.if-has_shortage.false p k place)
-        c.in-Some.counts line.items c.in-Some.ensures (is ∙ ap (λ n. summary_line c.args.number n c.in-Some.counts) peers))
-      c.summary.ensures
+    (λ line is. is_soak c.args.number c.args.run.now c.requires.done (λ p k place. c.has_shortage.ensures.nowhere c.if-has_shortage.false p k place)
+    c.in-Some.counts line.items c.in-Some.ensures (is ∙ ap (λ n. summary_line c.args.number n c.in-Some.counts) peers))
+    c.summary.ensures
