@@ -1,3 +1,0 @@
-pub mod Workers
-pub mod Standing
-pub mod Runs
