@@ -1,3 +1,4 @@
+use b1_edge::OpenGate;
 use b1_io::{MemSink, MemSource};
 use b1_shell::{quiet, top};
 use std::alloc::{AllocError, Global};
@@ -70,7 +71,14 @@ fn no_words(rt: HostRuntime) -> Result<(), Fail> {
     let alloc = rt.alloc();
     let mut source = MemSource::make(Vec::new(alloc), 64, Vec::new(alloc));
     let mut sink = MemSink::make(alloc, 64, 64, Vec::new(alloc))?;
-    let status = top(alloc, &Vec::new(alloc), &mut source, &mut sink);
+    let status = top(
+        &rt,
+        alloc,
+        &Vec::new(alloc),
+        &mut source,
+        &mut sink,
+        &OpenGate,
+    );
     assert_eq!(rt; status, 1);
     assert_eq!(rt;
         sink.taken(),

@@ -1,5 +1,7 @@
-//! Tests of the program on sources and sinks that fail, which the built program can't be given.
+//! Tests of the program on sources and sinks that fail, and on threads at gates, which the built program can't be given.
 #![tactic(auto)]
 
 #[cfg(test)]
 mod failing;
+#[cfg(test)]
+mod threads;
