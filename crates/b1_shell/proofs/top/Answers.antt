@@ -1,5 +1,7 @@
 use Rattle.std.proofs.Common.{◌≡◌, ◌∙◌, sym, subst, ℕ}
+use Rattle.b1_shell.specs.Ends.{spelled}
 use Rattle.b1_shell.specs.Runs.{TellsSoak}
+use Rattle.b1_shell.specs.Threads as threads
 use Rattle.b1_shell.specs.declared.threaded.Threaded.TheVariants.{Run, Soak}
 use Rattle.b1_shell.proofs.Lemmas.{same_soak}
 use Rattle.b1_shell.proofs.top.Goals as goal
@@ -12,5 +14,7 @@ returns-in-None-clause-soak g c = λ n is. absurd (c.in-None.ensures.nothing (So
 
 pub returns-in-Some-Soak-clause-soak : goal.returns-in-Some-Soak-clause-soak
 returns-in-Some-Soak-clause-soak g c = λ n is.
-    let same : c.in-Some-Soak.number ≡ n = same_soak _ c.in-Some-Soak.number n c.in-Some-Soak.ensures.asked is in
+    let words = spelled c.args.words.now in
+    let asked : threads.Asks words (Soak c.in-Some-Soak.number) = subst (threads.Asks words) c.in-Some-Soak.field-0-is c.in-Some-Soak.ensures.asked in
+    let same : c.in-Some-Soak.number ≡ n = same_soak words c.in-Some-Soak.number n asked is in
     subst (λ (k : ℕ). TellsSoak k (g.K.Sink.taken c.args.sink.now) (g.K.Sink.taken c.write_soak.new.sink) c.write_soak.result) same c.write_soak.ensures.tells

@@ -3,14 +3,14 @@ use Rattle.b1_io.specs.Streams.{Took, TookSuch}
 use Rattle.b1_shell.proofs.Lemmas.{Written, tells_run}
 use Rattle.b1_shell.proofs.write_run.Goals as goal
 
-pub returns-in-Ok-read_and_run-clause-tells : goal.returns-in-Ok-read_and_run-clause-tells
-returns-in-Ok-read_and_run-clause-tells g c =
+pub returns-in-Ok-clause-tells : goal.returns-in-Ok-clause-tells
+returns-in-Ok-clause-tells g c =
     let old = g.K.Sink.taken c.args.sink.now in
     let new = g.K.Sink.taken c.write_said.new.sink in
-    let written : Written c.in-Ok-read_and_run.said c.in-Ok-read_and_run.text.items old new c.write_said.result = record {
+    let written : Written c.in-Ok.said c.in-Ok.text.items old new c.write_said.result = record {
       known = c.write_said.ensures.known;
       whole = λ other. subst (λ (t : List ℕ). Took old new t) c.deref.ensures.value (c.write_said.ensures.whole other);
       part = λ five. subst (λ (t : List ℕ). TookSuch old new t (λ n. n < length t)) c.deref.ensures.value (c.write_said.ensures.part five);
     } in
-    let k = c.in-Ok-read_and_run.ensures in
+    let k = c.in-Ok.ensures in
     tells_run written _ _ k.says k.unbroken k.end k.done_end k.stalled_end
