@@ -152,37 +152,6 @@ module _ {said : Said} {text : List ℕ} {old new : Option (List ℕ)} {r : ℕ}
       no_status Stalled is = cc is
       no_status Broken is = cc is
 
--- what `soak` wrote
-pub tells_soak : (number : ℕ) {text : List ℕ} {old new : Option (List ℕ)} {r : ℕ} → Written Done text old new r → IsSoak number text → TellsSoak number old new r
-tells_soak number {text} written says = record {
-  done = λ is. (text, says, written.whole (λ five. cc (is, five)));
-  part = λ five. (text, says, written.part five);
-  only = elim written.known [ inl is ↦ inl is | inr five ↦ inr (inl five) ];
-}
-
--- ---- where nothing was written
-
-pub run_tells_nothing : (held left old new : Option (List ℕ)) (r : ℕ) → (r ≡ 4) ⊎ (r ≡ 6) → TellsRun held left old new r
-run_tells_nothing held left old new r which = record {
-  done = λ is. absurd (apart 0 (λ e. cc e) (λ e. cc e) is);
-  bad = λ is. absurd (apart 2 (λ e. cc e) (λ e. cc e) is);
-  stalled = λ is. absurd (apart 3 (λ e. cc e) (λ e. cc e) is);
-  part = λ is. absurd (apart 5 (λ e. cc e) (λ e. cc e) is);
-  read = λ w. absurd (elim w [ inl is ↦ apart 0 (λ e. cc e) (λ e. cc e) is | inr is ↦ apart 3 (λ e. cc e) (λ e. cc e) is ]);
-  read_bad = λ is. absurd (apart 2 (λ e. cc e) (λ e. cc e) is);
-  others = (λ is. apart 1 (λ e. cc e) (λ e. cc e) is, λ is. apart 7 (λ e. cc e) (λ e. cc e) is);
-}
-  where
-    apart : (n : ℕ) → (n ≡ 4 → ⊥) → (n ≡ 6 → ⊥) → r ≡ n → ⊥
-    apart n four six is = elim which [ inl e ↦ four (sym is ∙ e) | inr e ↦ six (sym is ∙ e) ]
-
-pub soak_tells_nothing : (number : ℕ) (old new : Option (List ℕ)) (r : ℕ) → r ≡ 6 → TellsSoak number old new r
-soak_tells_nothing number old new r six = record {
-  done = λ is. absurd (cc (is, six));
-  part = λ is. absurd (cc (is, six));
-  only = inr (inr six);
-}
-
 -- ---- words
 
 -- the words ask for one thing at most
@@ -191,9 +160,3 @@ same_soak words n k a b = decimal_injective n k (omega (arith, a.0)) (omega (ari
   where
     second : (x y : List ℕ) → ◌≡◌ {A = List (List ℕ)} (codes "soak" ∷ x ∷ []) (codes "soak" ∷ y ∷ []) → x ≡ y
     second x y e = cc e
-
-pub run_or_soak : (words : List (List ℕ)) (n : ℕ) → threads.Asks words Run → threads.Asks words (Soak n) → ⊥
-run_or_soak words n a b = lengths (ap length (sym a ∙ b.1))
-  where
-    lengths : ◌≡◌ {A = ℕ} 1 2 → ⊥
-    lengths e = cc e
