@@ -1,0 +1,44 @@
+-- What a command that was done leaves of its driver, and which answers the commands have.
+use Rattle.std.specs.Prelude.{◌≡◌, ℕ, ◌+◌, ◌||◌, List, Option, Some, None, Result, Ok, Err}
+use Rattle.b1_model.specs.declared.naming.PeerSpec.{PeerSpec}
+use Rattle.b1_model.specs.declared.answers.Answer.{Answer}
+use Rattle.b1_model.specs.declared.answers.Answer.TheVariants as answer
+use Rattle.b1_model.specs.declared.answers.Reason.{Reason}
+use Rattle.b1_model.specs.declared.commands.Command.{Command}
+use Rattle.b1_model.specs.declared.answers.Receipt.{Receipt}
+use Rattle.b1_model.specs.MachineTook.{as_call}
+use Rattle.b1_inv_answers.specs.Answers.{IsAnswered}
+use Rattle.b1_edge.specs.Ports.{refused_with}
+use Rattle.b1_commands.specs.Done.{Comes, RefusesRight, is_shutdown, leaves}
+use Rattle.b1_locks.specs.Faces.{DriverFace, member}
+
+-- the answer of a PEER_QUERY
+abbrev pub info_answer : Result PeerSpec Reason → Answer
+info_answer (Ok spec) = answer.Info spec.user spec.pool spec.limits
+info_answer (Err reason) = refused_with reason
+
+-- the answer of a PEER_RESET with flush or a PEER_DISCONNECT
+abbrev pub reset_answer : Result (Option ℕ) Reason → Answer
+reset_answer (Ok stamp) = answer.Reset stamp
+reset_answer (Err reason) = refused_with reason
+
+-- the answer of a RECV
+abbrev pub got_answer : Result Receipt Reason → Answer
+got_answer (Ok receipt) = answer.Got receipt
+got_answer (Err reason) = refused_with reason
+
+-- an answer is one of a kind
+abbrev pub Shows : {X : Type 0} → (X → Answer) → Answer → Type 0
+Shows {X} shown got = (x : X) × (shown x ≡ got)
+
+-- a driver has done a command and answered so: each event was one step from a reached state; one call fewer fits; the answer is of the command's kind; a refusal is one that the command may have; it is for a disconnect exactly where the driver was shut; only an accepted disconnect shuts it; and what attempts found stays
+pub record Did (d : DriverFace) (c : Command) (got : Answer) (e : DriverFace) : Type 0 where
+  pub member : member e ≡ member d
+  pub steps : Comes d.opening d.own.part c e.own.part
+  pub spare : e.own.spare + 1 ≡ d.own.spare
+  pub kind : IsAnswered (record { command = as_call c; answer = got })
+  pub refused : RefusesRight c got
+  pub shutdown : is_shutdown got ≡ d.own.part.shut
+  pub shut : e.own.part.shut ≡ (d.own.part.shut || leaves c got)
+  pub attempted : e.own.part.attempted ≡ d.own.part.attempted
+  pub attempts : e.own.part.attempts ≡ d.own.part.attempts

@@ -1,0 +1,3 @@
+pub mod Workers
+pub mod Standing
+pub mod Runs
