@@ -1,32 +1,30 @@
 -- A command that a driver does whole ends with one call, or as an attempt that waits.
-use Rattle.std.proofs.Common.{◌≡◌, ◌⊎◌, refl, sym, ap, ◌∙◌, inl, inr, subst, ℕ, zero, suc, ◌+◌, ◌-◌, ◌^◌, min, Bool, true, false, cond, ◌&&◌, ◌||◌, List, [], ◌∷◌, ◌++◌, length, slice_get, Option, Some, None}
+use Rattle.std.proofs.Common.{◌≡◌, ◌⊎◌, refl, sym, ap, ◌∙◌, inl, inr, subst, ℕ, zero, suc, Bool, true, false, cond, ◌&&◌, ◌||◌, List, [], ◌∷◌, ◌++◌, length, slice_get, Option, Some, None}
 use Rattle.std.proofs.lemmas.List.{append-nil}
-use Rattle.std.proofs.lemmas.Option.{same_Some}
 use Rattle.b1_model.specs.declared.naming.Opening.{Opening}
 use Rattle.b1_model.specs.declared.answers.Answer.{Answer}
 use Rattle.b1_model.specs.declared.answers.Answer.TheVariants as answer
-use Rattle.b1_model.specs.declared.answers.Front.{Front}
 use Rattle.b1_model.specs.declared.commands.Command.{Command}
 use Rattle.b1_model.specs.declared.commands.Command.TheVariants as cmd
 use Rattle.b1_model.specs.declared.records.Call.{Call}
 use Rattle.b1_model.specs.declared.events.Doing.{Doing}
 use Rattle.b1_model.specs.declared.events.Phase.{Phase}
-use Rattle.b1_model.specs.declared.events.Phase.TheVariants.{Starting, Staging, Unstaging, Attaching, Stamping, Syncing, Committing, Dropping, Reaping, Visiting, Dooming, SyncingNotices, CommittingOwn, CommittingNotices, Flushing}
+use Rattle.b1_model.specs.declared.events.Phase.TheVariants.{Starting}
 use Rattle.b1_model.specs.Opening.{IsOpening}
-use Rattle.b1_model.specs.MachineParts.{PeerPart, DriverPart, State}
+use Rattle.b1_model.specs.MachineParts.{PeerPart, DriverPart}
 use Rattle.b1_model.specs.MachineDriver.{next_action, Turn, Goes, Ends, turn}
 use Rattle.b1_model.specs.MachineTook.{is_await, is_again, is_waiting, is_done, answer_of, as_call, ended, goes_by, turned, with_facts, took_by}
 use Rattle.b1_model.specs.MachineEvents.{happens}
 use Rattle.std.specs.Prelude.{option_map}
 use Rattle.b1_model.specs.declared.answers.Reason.{Reason}
 use Rattle.b1_model.specs.declared.answers.Reason.TheVariants as reason
-use Rattle.b1_model.specs.MachineStep.{Step, LocalStep, begun_by, done_by, effect_by, effect, aimed, target}
+use Rattle.b1_model.specs.MachineStep.{begun_by, done_by, effect_by, effect, aimed, target}
 use Rattle.b1_step.proofs.Steps.{reached_more}
 use Rattle.b1_step.proofs.Locality.{own_driver, step_grows}
 use Rattle.b1_inv_answers.specs.Answers.{IsAnswered}
 use Rattle.b1_inv_answers.proofs.Answered.{reached_answered}
-use Rattle.b1_commands.specs.Done.{is_shut_reason, is_shutdown, leaves, Moves, GoesOn, Comes, Called, Waited, HasEnded}
-use Rattle.b1_commands.proofs.Under.{Shown, shown, AttemptBy, EndsRight, Under, TurnUnder, event_under, last_right}
+use Rattle.b1_commands.specs.Done.{is_shut_reason, is_shutdown, leaves, Moves, GoesOn, Comes, HasEnded}
+use Rattle.b1_commands.proofs.Under.{shown, AttemptBy, EndsRight, Under, TurnUnder, event_under, last_right}
 
 -- ---- where a driver stands
 
@@ -98,6 +96,10 @@ next_stage o d c m f k moves =
 -- no step goes on where no command is open
 none_goes : (o : Opening) (m f : DriverPart) → m.doing ≡ None → Moves o m None f → ⊥
 none_goes o m f idle moves = let step = moves.step in cc (sym (ap (λ b. option_map aimed (begun_by m b None)) idle) ∙ ap (λ z. target z None) (sym moves.from) ∙ step.is_target)
+
+pub stays_closed : (o : Opening) (n : ℕ) (m f : DriverPart) → m.doing ≡ None → GoesOn o n m f → f ≡ m
+stays_closed o zero m f idle same = sym same
+stays_closed o (suc n) m f idle (l, before, moves) = absurd (none_goes o l f (ap (λ z. z.doing) (stays_closed o n m l idle before) ∙ idle) moves)
 
 goes_on : (o : Opening) (d : DriverPart) (c : Command) (n : ℕ) (m f : DriverPart) → Stage d c m → GoesOn o n m f → Stage d c f
 goes_on o d c zero m f k same = subst (Stage d c) same k

@@ -1,7 +1,6 @@
 -- Which reasons refuse a command at its first event, and a destination of a SEND.
-use Rattle.std.proofs.Common.{◌≡◌, ◌⊎◌, refl, sym, ap, ◌∙◌, inl, inr, subst, ℕ, ◌==◌, Bool, true, false, cond, not, List, [], ◌∷◌, map, find, filter, length, nat_lt, nat_le, Option, Some, None, Ok, Err, Result, option_map}
+use Rattle.std.proofs.Common.{◌≡◌, refl, subst, ℕ, ◌==◌, Bool, true, false, cond, not, List, [], ◌∷◌, map, find, filter, length, Option, Some, None, Err, option_map}
 use Rattle.std.specs.Bool.{then_some}
-use Rattle.std.proofs.lemmas.Option.{same_Some}
 use Rattle.b1_model.specs.declared.naming.NodeRef.{NodeRef}
 use Rattle.b1_model.specs.declared.answers.Quantity.{Quantity}
 use Rattle.b1_model.specs.declared.answers.Quantity.TheVariants.{Entries, Bytes, Handles}
@@ -10,12 +9,11 @@ use Rattle.b1_model.specs.declared.answers.Reason.TheVariants as reason
 use Rattle.b1_model.specs.declared.commands.Command.{Command}
 use Rattle.b1_model.specs.declared.commands.Command.TheVariants as cmd
 use Rattle.b1_model.specs.declared.commands.SendCmd.{SendCmd}
-use Rattle.b1_model.specs.declared.parts.Owed.{Owed}
 use Rattle.b1_model.specs.Names.{is_own, is_given}
 use Rattle.b1_model.specs.MachineParts.{PeerPart, HandleRecord, is_destroyed, node_at}
 use Rattle.b1_model.specs.MachineTables.{over_quota, serial_of, is_number, charged, limit_of, amount, within_quota}
-use Rattle.b1_model.specs.MachineSend.{first_reason, send_reasons, send_refusal, stage_reasons, stage_refusal, dead_reason, is_unknown, unknown_reason}
-use Rattle.b1_model.specs.MachineReceive.{released_by, released}
+use Rattle.b1_model.specs.MachineSend.{first_reason, send_reasons, send_refusal, stage_reasons, stage_refusal, dead_reason, is_unknown}
+use Rattle.b1_model.specs.MachineReceive.{released_by}
 use Rattle.b1_model.specs.MachineDestroy.{overflow_reason, destroy_refusal, is_not_live, is_bad_destroy}
 use Rattle.b1_model.specs.MachinePool.{slice_len, largest_free}
 use Rattle.b1_commands.specs.Done.{may_refuse, is_shut_reason}

@@ -1,8 +1,6 @@
 -- A driver under its command, phase by phase: its list is as before, and what its answer is to be is right.
-use Rattle.std.proofs.Common.{◌≡◌, ◌⊎◌, refl, sym, ap, ◌∙◌, inl, inr, subst, ℕ, zero, suc, ◌+◌, ◌-◌, ◌^◌, min, max, Bool, true, false, cond, ◌&&◌, ◌||◌, not, nat_lt, List, [], ◌∷◌, ◌++◌, length, get_or, Option, Some, None, Ok, Err, Result}
+use Rattle.std.proofs.Common.{◌≡◌, refl, sym, ap, ◌∙◌, subst, ℕ, ◌+◌, ◌-◌, ◌^◌, min, max, Bool, true, false, cond, ◌&&◌, ◌||◌, nat_lt, List, [], ◌∷◌, ◌++◌, length, get_or, Option, Some, None, Ok, Err, Result}
 use Rattle.std.proofs.lemmas.Bool.{cond_both}
-use Rattle.std.proofs.lemmas.Option.{same_Some}
-use Rattle.b1_model.specs.declared.naming.Limits.{Limits}
 use Rattle.b1_model.specs.declared.naming.Opening.{Opening}
 use Rattle.b1_model.specs.declared.answers.Answer.{Answer}
 use Rattle.b1_model.specs.declared.answers.Answer.TheVariants as answer
@@ -19,7 +17,6 @@ use Rattle.b1_model.specs.declared.parts.Owed.{Owed}
 use Rattle.b1_model.specs.declared.events.Action.{Action}
 use Rattle.b1_model.specs.declared.events.Action.TheVariants as act
 use Rattle.b1_model.specs.declared.events.Destruction.{Destruction}
-use Rattle.b1_model.specs.declared.events.Doing.{Doing}
 use Rattle.b1_model.specs.declared.events.Outcome.{Outcome}
 use Rattle.b1_model.specs.declared.events.Outcome.TheVariants as out
 use Rattle.b1_model.specs.declared.events.OwedDrop.{OwedDrop}
@@ -28,14 +25,14 @@ use Rattle.b1_model.specs.declared.events.Phase.TheVariants.{Starting, Staging, 
 use Rattle.b1_model.specs.declared.events.Sending.{Sending}
 use Rattle.b1_model.specs.MachineParts.{PeerPart, DriverPart}
 use Rattle.b1_model.specs.MachinePool.{is_received}
-use Rattle.b1_model.specs.MachineSend.{send_refusal, stage_refusal, is_committed}
+use Rattle.b1_model.specs.MachineSend.{send_refusal, is_committed}
 use Rattle.b1_model.specs.MachineReceive.{received, received_part, has_dead, released}
 use Rattle.b1_model.specs.MachineDestroy.{destroy_refusal, overflow_reason, flushed}
-use Rattle.b1_model.specs.MachineDriver.{send_of, is_place, accepted_from, memory_place, is_memory, refused_at, all_refused, attaching, all_staged, staging, unstaging, with_slot, syncing, visiting, with_visit, syncing_notices, committing_notices, is_flushing, destroying, recv_answer, started, place_done, first_action, phase_action, next_action, Turn, Goes, Ends, turn, node_of_place}
-use Rattle.b1_model.specs.MachineTook.{is_disconnect, is_await, is_again, is_waiting, attempt_of, with_facts, answer_of, is_done, stamped_answer, sent_answer}
-use Rattle.b1_model.specs.MachineEvents.{happens, begin_by, stage_by, destroy_by, begin_refusal, begin_serials, local_answer, number_of, begun_of, user_of, limits_after}
+use Rattle.b1_model.specs.MachineDriver.{is_place, accepted_from, memory_place, refused_at, all_refused, attaching, all_staged, staging, unstaging, syncing, visiting, syncing_notices, committing_notices, is_flushing, destroying, place_done, first_action, phase_action, next_action, Turn, Goes, Ends, turn}
+use Rattle.b1_model.specs.MachineTook.{is_disconnect, is_await, is_waiting, with_facts, answer_of, is_done, sent_answer}
+use Rattle.b1_model.specs.MachineEvents.{happens, begin_by, stage_by, destroy_by, local_answer, limits_after}
 use Rattle.b1_inv_tools.proofs.Facts.{next_of, next_owed}
-use Rattle.b1_commands.specs.Done.{may_refuse, is_send, RefusesRight, is_shut_reason, is_shutdown, leaves}
+use Rattle.b1_commands.specs.Done.{is_send, RefusesRight, is_shutdown, leaves}
 use Rattle.b1_commands.proofs.Refusals.{IsRight, IfRight, send_right, stage_right, memory_right, overflow_right, destroy_right, released_right}
 
 -- ---- what is right of an answer, and of a phase

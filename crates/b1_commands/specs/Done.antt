@@ -1,5 +1,5 @@
 -- A command that one driver does whole: its steps, and what they leave.
-use Rattle.std.specs.Prelude.{◌≡◌, ◌⊎◌, ⊤, ℕ, zero, suc, ◌+◌, ◌-◌, ◌^◌, min, Bool, true, false, ◌||◌, List, [], ◌∷◌, ◌++◌, Option, Some, None}
+use Rattle.std.specs.Prelude.{◌≡◌, ◌⊎◌, ⊤, ℕ, zero, suc, ◌+◌, ◌-◌, ◌^◌, min, Bool, true, false, ◌||◌, [], ◌∷◌, ◌++◌, Option, Some, None}
 use Rattle.b1_model.specs.declared.naming.Opening.{Opening}
 use Rattle.b1_model.specs.declared.commands.Command.{Command}
 use Rattle.b1_model.specs.declared.commands.Command.TheVariants as cmd
@@ -8,7 +8,6 @@ use Rattle.b1_model.specs.declared.answers.Answer.TheVariants as answer
 use Rattle.b1_model.specs.declared.answers.Front.{Front}
 use Rattle.b1_model.specs.declared.answers.Reason.{Reason}
 use Rattle.b1_model.specs.declared.answers.Reason.TheVariants as reason
-use Rattle.b1_model.specs.declared.records.Call.{Call}
 use Rattle.b1_model.specs.MachineParts.{DriverPart, State}
 use Rattle.b1_model.specs.MachineTook.{as_call, is_disconnect, is_waiting}
 use Rattle.b1_model.specs.MachineStep.{Reached, Step}

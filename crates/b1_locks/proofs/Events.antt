@@ -1,14 +1,13 @@
 -- An event under a lock: what it needs is there, and what it does is a step of the machine.
-use Rattle.std.proofs.Common.{◌≡◌, ◌≢◌, ◌⊎◌, refl, sym, ap, ◌∙◌, inl, inr, subst, ℕ, ◌+◌, ◌<◌, ◌≤◌, List, [], ◌∷◌, length, get_or, set, Option, Some, None, slice_get}
-use Rattle.std.proofs.lemmas.Option.{slice_get_within}
+use Rattle.std.proofs.Common.{◌≡◌, ◌≢◌, ◌⊎◌, refl, sym, ap, ◌∙◌, inl, inr, subst, ℕ, ◌<◌, List, [], ◌∷◌, length, get_or, set, Option, Some, slice_get}
 use native.Mathlib.Omega.{arith}
 use Rattle.atomic_table.specs.Table.{rest}
 use Rattle.b1_model.specs.declared.naming.Opening.{Opening}
 use Rattle.b1_model.specs.declared.commands.Command.{Command}
 use Rattle.b1_model.specs.Opening.{IsOpening}
-use Rattle.b1_model.specs.MachineParts.{PeerPart, DriverPart, State}
+use Rattle.b1_model.specs.MachineParts.{State}
 use Rattle.b1_model.specs.MachineDriver.{next_action, peer_of}
-use Rattle.b1_model.specs.MachineStep.{Step, Reached, begun, target}
+use Rattle.b1_model.specs.MachineStep.{Step, Reached}
 use Rattle.b1_step.specs.Fixed.{IsNumbered}
 use Rattle.b1_step.proofs.Lists.{set_cases}
 use Rattle.b1_step.proofs.Locality.{own_driver, step_grows}
@@ -22,10 +21,8 @@ use Rattle.b1_event.specs.Events.{Allowed, Does, HasStock, HasUsers}
 use Rattle.b1_event.proofs.Opened.{begun_step, target_is}
 use Rattle.b1_rule.specs.Known.{Holding}
 use Rattle.b1_rule.specs.Rule.{holding, IsHeld}
-use Rattle.b1_rule.specs.Plays.{Sat, naming, resting, Stands, Changes, Took}
-use Rattle.b1_commands.specs.Done.{Moves}
-use Rattle.b1_locks.specs.Faces.{StandsIn}
-use Rattle.b1_locks.specs.Locks.{Rests, HasStepped, IsFit, HasBegun, MayStep, HasLock, MayWork, HasMoved}
+use Rattle.b1_rule.specs.Plays.{Sat, naming, Changes}
+use Rattle.b1_locks.specs.Locks.{HasStepped, HasBegun, HasLock, HasMoved}
 
 abbrev pub Bears : Type 0
 Bears = (o : Opening) (s : State) → IsOpening o → Reached o s → AreShort s → BearsEvents o s

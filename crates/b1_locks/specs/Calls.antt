@@ -1,14 +1,19 @@
 -- What a command that was done leaves of its driver, and which answers the commands have.
-use Rattle.std.specs.Prelude.{◌≡◌, ℕ, ◌+◌, ◌||◌, List, Option, Some, None, Result, Ok, Err}
+use Rattle.std.specs.Prelude.{◌≡◌, ⊤, ℕ, ◌+◌, ◌-◌, ◌^◌, ◌≤◌, length, min, false, ◌||◌, Option, Some, Result, Ok, Err}
 use Rattle.b1_model.specs.declared.naming.PeerSpec.{PeerSpec}
 use Rattle.b1_model.specs.declared.answers.Answer.{Answer}
 use Rattle.b1_model.specs.declared.answers.Answer.TheVariants as answer
 use Rattle.b1_model.specs.declared.answers.Reason.{Reason}
+use Rattle.b1_model.specs.declared.answers.Front.{Front}
+use Rattle.b1_model.specs.declared.answers.Reason.TheVariants.{Shutdown}
+use Rattle.b1_model.specs.declared.answers.Tried.{Tried}
+use Rattle.b1_model.specs.declared.answers.Tried.TheVariants.{Got, Shut, Waiting}
 use Rattle.b1_model.specs.declared.commands.Command.{Command}
+use Rattle.b1_model.specs.declared.commands.Command.TheVariants as cmd
 use Rattle.b1_model.specs.declared.answers.Receipt.{Receipt}
 use Rattle.b1_model.specs.MachineTook.{as_call}
 use Rattle.b1_inv_answers.specs.Answers.{IsAnswered}
-use Rattle.b1_edge.specs.Ports.{refused_with}
+use Rattle.b1_edge.specs.Ports.{refused_with, with_call}
 use Rattle.b1_commands.specs.Done.{Comes, RefusesRight, is_shutdown, leaves}
 use Rattle.b1_locks.specs.Faces.{DriverFace, member}
 
@@ -42,3 +47,31 @@ pub record Did (d : DriverFace) (c : Command) (got : Answer) (e : DriverFace) : 
   pub shut : e.own.part.shut ≡ (d.own.part.shut || leaves c got)
   pub attempted : e.own.part.attempted ≡ d.own.part.attempted
   pub attempts : e.own.part.attempts ≡ d.own.part.attempts
+
+-- an attempt to receive that waits
+pub record Waits (d : DriverFace) (front : Front) (removed : ℕ) (e : DriverFace) : Type 0 where
+  pub member : member e ≡ member d
+  pub steps : Comes d.opening d.own.part cmd.Await e.own.part
+  pub calls : e.own.part.calls ≡ d.own.part.calls
+  pub spare : e.own.spare ≡ d.own.spare
+  pub open_at : d.own.part.shut ≡ false
+  pub shut : e.own.part.shut ≡ false
+  pub attempted : e.own.part.attempted ≡ Some (front, removed)
+  pub attempts : e.own.part.attempts ≡ min (d.own.part.attempts + 1) (2 ^ 64 - 1)
+
+-- whether an attempt that added a call took a receipt
+abbrev pub IsTried : Tried → Answer → Type 0
+IsTried Got (answer.Got receipt) = ⊤
+IsTried Shut (answer.Refused b) = ⊤
+IsTried tried got = ⊥
+
+-- an attempt to receive: it took a receipt, which is the last call; or the driver is shut, which is the last call; or it waits, with the front that it found and how many entries it removed: the list and the spare stay, and the count of such attempts rises unless it stands at its end
+abbrev pub HasTried : DriverFace → Tried → DriverFace → Type 0
+HasTried d Got e = (receipt : Receipt) × (e.own.part.calls ≡ with_call cmd.Recv (answer.Got receipt) d.own.part.calls) × Did d cmd.Await (answer.Got receipt) e
+HasTried d Shut e = (e.own.part.calls ≡ with_call cmd.Recv (refused_with Shutdown) d.own.part.calls) × Did d cmd.Await (refused_with Shutdown) e
+HasTried d (Waiting front removed) e = Waits d front removed e
+
+-- a list of so many places holds what each destination of a SEND answered
+abbrev pub FitsIn : ℕ → Answer → Type 0
+FitsIn n (answer.Sent b) = length b.places ≤ n
+FitsIn n got = ⊤

@@ -1,15 +1,17 @@
 -- What a driver's seat is between events and under a lock, and what one event makes of the driver.
-use Rattle.std.specs.Prelude.{◌≡◌, ℕ, ◌+◌, ◌<◌, ◌≤◌, [], ◌∷◌, length, Option, Some, None}
+use Rattle.std.specs.Prelude.{◌≡◌, ℕ, ◌+◌, ◌<◌, ◌≤◌, [], ◌∷◌, length, Option, Some, Err}
 use Rattle.b1_model.specs.declared.naming.Opening.{Opening}
 use Rattle.b1_model.specs.declared.commands.Command.{Command}
+use Rattle.b1_model.specs.declared.answers.Reason.{Reason}
+use Rattle.b1_model.specs.declared.events.Outcome.TheVariants as out
 use Rattle.b1_model.specs.MachineParts.{PeerPart, DriverPart}
+use Rattle.b1_model.specs.MachineTook.{took}
 use Rattle.b1_model.specs.MachineDriver.{next_action, peer_of}
 use Rattle.b1_model.specs.MachineStep.{begun}
 use Rattle.b1_peer.specs.Seen.{PeerSeen}
 use Rattle.b1_driver.specs.Parts.{Driver}
 use Rattle.b1_event.specs.Borne.{call_limit}
 use Rattle.b1_rule.specs.Known.{Holding}
-use Rattle.b1_rule.specs.Rule.{holding}
 use Rattle.b1_rule.specs.Plays.{Sat, naming, resting, Changes, Took}
 use Rattle.b1_commands.specs.Done.{Moves}
 use Rattle.b1_locks.specs.Faces.{StandsIn}
@@ -59,3 +61,7 @@ pub record HasMoved (o : Opening) (before : Holding) (command : Option Command) 
   pub fit : IsFit e
   pub spare : e.spare + length e.part.calls ≡ d.spare + length d.part.calls
   pub moves : Moves o before.part command e.part
+
+-- the begin of a SEND was refused
+abbrev pub IsBeginRefused : DriverPart → DriverPart → Type 0
+IsBeginRefused d e = (r : Reason) × (e ≡ took d (out.Begin (Err r)))

@@ -1,8 +1,10 @@
-ghost use Rattle.std.specs.Prelude.{◌≡◌};
-ghost use Rattle.b1_edge.specs.Ports.{destroyed_answer, done_answer, received_answer};
-ghost use Rattle.b1_locks.specs.Calls.{got_answer, info_answer, reset_answer, Shows};
+ghost use Rattle.std.specs.Prelude.{◌≡◌, ◌≤◌, [], length, vec_capacity};
+ghost use Rattle.b1_model.specs.declared.answers.Answer.TheVariants as answers;
+ghost use Rattle.b1_model.specs.declared.answers.Refused.{Refused as Refusal};
+ghost use Rattle.b1_edge.specs.Ports.{destroyed_answer, done_answer, received_answer, sent_answer};
+ghost use Rattle.b1_locks.specs.Calls.{got_answer, info_answer, reset_answer, FitsIn, IsTried, Shows};
 
-use b1_model::{Answer, PeerSpec, Reason, Receipt};
+use b1_model::{Answer, PeerSpec, Places, Reason, Receipt, Refused, Sent, Tried};
 
 /// What a command that answers no value came to.
 pub fn done(answer: &Answer) -> Result<(), Reason>
@@ -64,6 +66,57 @@ pub fn received(answer: &Answer) -> Result<&Receipt, Reason>
     match answer {
         Answer::Got(receipt) => Ok(receipt),
         Answer::Refused(refused) => Err(refused.reason),
+        _ => unreachable!(),
+    }
+}
+
+/// What an attempt to receive that added a call came to.
+pub fn tried(answer: &Answer) -> Tried
+    requires { Shows got_answer answer.now }
+    ensures { IsTried result answer.now }
+{
+    match answer {
+        Answer::Got(_) => Tried::Got,
+        _ => Tried::Shut,
+    }
+}
+
+/// What a SEND came to, with room for what each destination answered. Takes no memory.
+pub fn sent(answer: &Answer, room: Vec<Option<Reason>>) -> Result<Sent, Refused>
+    requires shows { Shows sent_answer answer.now }
+    requires empty { room.items ≡ [] }
+    requires room { FitsIn (vec_capacity room) answer.now }
+    ensures { sent_answer result ≡ answer.now }
+{
+    match answer {
+        Answer::Sent(sent) => Ok(Sent {
+            stamp: sent.stamp,
+            places: copied(&sent.places, room),
+        }),
+        Answer::Refused(refused) => Err(*refused),
+        _ => unreachable!(),
+    }
+}
+
+// A copy of what each destination answered, in a list that has room for it.
+fn copied(places: &Places, mut room: Vec<Option<Reason>>) -> Places
+    requires empty { room.items ≡ [] }
+    requires room { length places.now ≤ vec_capacity room }
+    ensures { result ≡ places.now }
+{
+    match room.extend_from_slice(places.as_slice()) {
+        Ok(()) => Places::from_vec(room),
+        Err(_) => unreachable!(),
+    }
+}
+
+/// Why a SEND was refused.
+pub fn refused(answer: &Answer) -> Result<Sent, Refused>
+    requires { (b : Refusal) × (answer.now ≡ answers.Refused b) }
+    ensures { sent_answer result ≡ answer.now }
+{
+    match answer {
+        Answer::Refused(refused) => Err(*refused),
         _ => unreachable!(),
     }
 }

@@ -128,4 +128,12 @@ impl<Q: QueueKind, P: PoolKind> Driver<Q, P> {
     {
         self.hand.state.is_shut()
     }
+
+    /// The front that the last attempt which had to wait found, and how many entries it removed; `None` where there was no
+    /// such attempt.
+    pub fn attempted(&self) -> Option<(Front, u64)>
+        ensures { result ≡ self.now.own.part.attempted }
+    {
+        self.hand.state.attempted()
+    }
 }

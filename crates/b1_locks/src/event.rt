@@ -1,10 +1,11 @@
-ghost use Rattle.std.specs.Prelude.{◌≡◌, Option as Maybe};
+ghost use Rattle.std.specs.Prelude.{◌≡◌, true, Option as Maybe};
+ghost use Rattle.b1_model.specs.declared.events.Action.TheVariants as act;
 ghost use Rattle.b1_model.specs.declared.commands.Command.{Command};
-ghost use Rattle.b1_model.specs.MachineDriver.{peer_of};
+ghost use Rattle.b1_model.specs.MachineDriver.{next_action, peer_of};
 ghost use Rattle.b1_rule.specs.Known.{Holding};
 ghost use Rattle.b1_rule.specs.Plays.{resting};
 ghost use Rattle.b1_rule.specs.Rule.{holding};
-ghost use Rattle.b1_locks.specs.Locks.{HasBegun, HasLock, HasMoved, HasStepped, MayStep, MayWork};
+ghost use Rattle.b1_locks.specs.Locks.{HasBegun, HasLock, HasMoved, HasStepped, IsBeginRefused, MayStep, MayWork};
 
 use crate::bus::{Bus, Place};
 use crate::driver::Hand;
@@ -35,6 +36,8 @@ pub fn event<Q: QueueKind, P: PoolKind, R: Wait, G: Gate>(
         → hand.old.seat.me ≡ resting bus.now.opening before
         → HasBegun bus.now.opening before command hand.old.state
         → HasMoved bus.now.opening before command hand.old.state hand.new.state }
+    ensures short { short ≡ true → next_action hand.old.state.part ≡ act.Begin
+        → IsBeginRefused hand.old.state.part hand.new.state.part }
 {
     reached_states_bear_events();
     bus.shape();
@@ -65,6 +68,8 @@ impl<Q: QueueKind, P: PoolKind> Bus<Q, P> {
         ensures moved { (before : Holding) (command : Maybe Command)
             → HasLock self.now.opening before command seat.old.me at driver.old
             → HasMoved self.now.opening before command driver.old driver.new }
+        ensures short { short ≡ true → next_action driver.old.part ≡ act.Begin
+            → IsBeginRefused driver.old.part driver.new.part }
     {
         reached_states_bear_events();
         let peer = seat.slot_mut(&self.table.shared, at);

@@ -71,8 +71,8 @@ impl<Q: QueueKind, P: PoolKind> Driver<Q, P> {
     }
 }
 
-// The gate is told of a call that was added behind so many.
-fn tell<G: Gate>(gate: &G, driver: &DriverState, before: usize) {
+/// The gate is told of a call that was added behind so many.
+pub fn tell<G: Gate>(gate: &G, driver: &DriverState, before: usize) {
     if driver.calls().len() > before {
         gate.at(Point::Answered {
             driver: driver.number(),

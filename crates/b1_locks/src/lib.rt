@@ -8,12 +8,16 @@
 mod answers;
 mod bus;
 mod commands;
+mod crossing;
 mod driver;
 mod event;
 mod finish;
 mod locks;
+mod receive;
 mod run;
+mod send;
 mod short;
 
 pub use bus::{Board, Bus, Place};
+pub use crossing::cross;
 pub use driver::Driver;

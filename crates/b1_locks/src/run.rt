@@ -1,4 +1,8 @@
-ghost use Rattle.std.specs.Prelude.{◌≡◌, ◌+◌, ◌≤◌, ℕ, None, length};
+ghost use Rattle.std.specs.Prelude.{◌≡◌, ◌+◌, ◌≤◌, ℕ, None, false, length};
+ghost use Rattle.b1_model.specs.declared.answers.Answer.TheVariants as answer;
+ghost use Rattle.b1_model.specs.declared.answers.Refused.{Refused};
+ghost use Rattle.b1_model.specs.declared.commands.Command.TheVariants as command;
+ghost use Rattle.b1_edge.specs.Ports.{with_call};
 ghost use Rattle.b1_rule.specs.Plays.{resting};
 ghost use Rattle.b1_rule.specs.Rule.{holding};
 ghost use Rattle.b1_commands.specs.Done.{Comes, GoesOn};
@@ -9,7 +13,8 @@ use crate::bus::Bus;
 use crate::driver::Hand;
 use crate::event::event;
 use b1_edge::Gate;
-use b1_model::Command;
+use b1_law::every_reached_state_is_sound;
+use b1_model::{Command, SendCmd};
 use b1_pool::PoolKind;
 use b1_queue::QueueKind;
 use std::sync::Wait;
@@ -37,6 +42,36 @@ pub fn run<Q: QueueKind, P: PoolKind, R: Wait, G: Gate>(
 {
     hand.state.begin(command);
     event(rt, bus, gate, hand, false);
+    go_on(rt, bus, gate, hand);
+}
+
+/// Begins a SEND where there is no memory for its answer: it is refused at once, for want of memory if nothing else refuses
+/// it.
+pub fn run_short<Q: QueueKind, P: PoolKind, R: Wait, G: Gate>(
+    rt: &R,
+    bus: &Bus<Q, P>,
+    gate: &G,
+    send: SendCmd,
+    hand: &mut Hand<Q, P>,
+)
+    requires table { hand.old.seat.table_id ≡ bus.now.table }
+    requires rests { hand.old.seat.me ≡ resting bus.now.opening (holding hand.old.state) }
+    requires idle { IsIdle hand.old.state }
+    requires stands { StandsIn bus.now.opening hand.old.state.part }
+    requires spare { 1 ≤ hand.old.state.spare }
+    ensures table { hand.new.seat.table_id ≡ hand.old.seat.table_id }
+    ensures rests { hand.new.seat.me ≡ resting bus.now.opening (holding hand.new.state) }
+    ensures idle { IsIdle hand.new.state }
+    ensures stands { StandsIn bus.now.opening hand.new.state.part }
+    ensures steps { Comes bus.now.opening hand.old.state.part (command.Send send) hand.new.state.part }
+    ensures spare { hand.new.state.spare + length hand.new.state.part.calls
+        ≡ hand.old.state.spare + length hand.old.state.part.calls }
+    ensures refused { hand.old.state.part.shut ≡ false
+        → (b : Refused) × (hand.new.state.part.calls ≡ with_call (command.Send send) (answer.Refused b) hand.old.state.part.calls) }
+{
+    every_reached_state_is_sound();
+    hand.state.begin(Command::Send(send));
+    event(rt, bus, gate, hand, true);
     go_on(rt, bus, gate, hand);
 }
 

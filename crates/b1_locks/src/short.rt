@@ -1,8 +1,9 @@
-ghost use Rattle.std.specs.Prelude.{◌≡◌, ◌<◌, true, length};
+ghost use Rattle.std.specs.Prelude.{◌≡◌, ◌≢◌, ◌<◌, true, false, length};
 ghost use Rattle.b1_model.specs.declared.naming.Opening.{Opening as Openings};
 ghost use Rattle.b1_model.specs.declared.events.Action.TheVariants as act;
 ghost use Rattle.b1_model.specs.MachineDriver.{next_action};
 ghost use Rattle.b1_event.specs.Events.{Allowed, Does, HasStock, HasUsers};
+ghost use Rattle.b1_locks.specs.Locks.{IsBeginRefused};
 
 use b1_driver::DriverState;
 use b1_event::do_event;
@@ -23,7 +24,9 @@ pub fn do_one<Q: QueueKind, P: PoolKind>(
     requires stock { HasStock (next_action driver.old.part) at.old.part driver.old }
     requires known { driver.old.part.me < length opening.now.peers }
     requires users { HasUsers opening.now at.old.users }
-    ensures { Does opening.now driver.old at.old driver.new at.new }
+    ensures does { Does opening.now driver.old at.old driver.new at.new }
+    ensures short { short ≡ true → next_action driver.old.part ≡ act.Begin
+        → IsBeginRefused driver.old.part driver.new.part }
 {
     if short && is_begin(driver.next()) {
         refuse_begin(driver, at);
@@ -34,7 +37,8 @@ pub fn do_one<Q: QueueKind, P: PoolKind>(
 
 // Whether a SEND begins.
 fn is_begin(action: Action) -> bool
-    ensures { result ≡ true → action ≡ act.Begin }
+    ensures yes { result ≡ true → action ≡ act.Begin }
+    ensures no { result ≡ false → action ≢ act.Begin }
 {
     matches!(action, Action::Begin)
 }
@@ -42,7 +46,8 @@ fn is_begin(action: Action) -> bool
 // A SEND that begins is refused, for want of memory if nothing else refuses it.
 fn refuse_begin<Q: QueueKind, P: PoolKind>(driver: &mut DriverState, peer: &PeerState<Q, P>)
     requires next { next_action driver.old.part ≡ act.Begin }
-    ensures { (o : Openings) → Does o driver.old peer.now driver.new peer.now }
+    ensures does { (o : Openings) → Does o driver.old peer.now driver.new peer.now }
+    ensures refused { IsBeginRefused driver.old.part driver.new.part }
 {
     let Some(Command::Send(send)) = driver.command() else {
         unreachable!()

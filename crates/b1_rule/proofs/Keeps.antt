@@ -1,5 +1,5 @@
 -- Each kind of step on the table of locks keeps its rule.
-use Rattle.std.proofs.Common.{◌≡◌, ◌⊎◌, ℕ, zero, suc, ◌+◌, ◌<◌, ◌≤◌, ◌==◌, eqb, Bool, true, false, cond, ◌≢◌, List, [], ◌∷◌, ◌++◌, map, length, get_or, set, take, drop, sym, refl, ap, ◌∙◌, subst, inl, inr, ⊎_elim, arith, Option, Some, None, slice_get, slice_index}
+use Rattle.std.proofs.Common.{◌≡◌, ◌⊎◌, ℕ, zero, suc, ◌+◌, ◌<◌, ◌≤◌, ◌==◌, eqb, Bool, true, false, cond, ◌≢◌, List, [], ◌∷◌, ◌++◌, length, set, take, drop, sym, refl, ap, ◌∙◌, subst, inl, inr, ⊎_elim, arith, Option, Some, None, slice_get, slice_index}
 use Rattle.std.proofs.Common.{length-set, get_or-set_other, get_or-set_same, eq-eqb, ne_eqb}
 use Rattle.std.proofs.lemmas.List.{length-map}
 use Rattle.std.proofs.lemmas.Option.{same_Some, slice_get_within}
@@ -10,27 +10,25 @@ use native.Mathlib.Decide.{ℕ_discrete}
 use lib.ListN.{get_elem?}
 use lib.Seq.{set-get_or}
 use prog.Atomic.{either}
-use Rattle.atomic_table.specs.Table.{State as Table, step, Act, keeps, takes, gives, Valid, carried_after, stepped, opening, Allows, Splits, Joins, Final, Seen}
+use Rattle.atomic_table.specs.Table.{State as Table, step, Act, keeps, takes, gives, Valid, carried_after, stepped, Allows, Splits, Joins}
 use Rattle.b1_model.specs.declared.naming.Opening.{Opening}
 use Rattle.b1_model.specs.declared.commands.Command.{Command}
 use Rattle.b1_model.specs.Opening.{IsOpening}
-use Rattle.b1_model.specs.MachineParts.{PeerPart, DriverPart, State}
+use Rattle.b1_model.specs.MachineParts.{PeerPart, State}
 use Rattle.b1_model.specs.MachineStep.{Label, Leads, Step, Reached, opening_state}
-use Rattle.b1_step.specs.Fixed.{IsNumbered}
 use Rattle.b1_step.specs.Rights.{may_be_elsewhere, node_facts}
 use Rattle.b1_step.proofs.Lists.{read_same, read_other, set_cases}
 use Rattle.b1_step.proofs.Locality.{step_grows, step_keeps, own_place}
 use Rattle.b1_step.proofs.Numbers.{reached_numbered}
 use Rattle.b1_step.proofs.Steps.{leads_more}
 use Rattle.b1_peer.specs.Seen.{PeerSeen}
-use Rattle.b1_driver.specs.Parts.{Driver}
-use Rattle.b1_event.specs.Borne.{AreShort, call_limit}
+use Rattle.b1_event.specs.Borne.{AreShort}
 use Rattle.b1_event.specs.Events.{HasUsers}
 use Rattle.b1_rule.specs.Known.{Found, Holding}
-use Rattle.b1_rule.specs.Rule.{LedTo, total, times, names_peer, whole, holding, held_by, IsHeld, Knows, IsFree, IsTaken, Kept}
-use Rattle.b1_rule.specs.Plays.{Sat, naming, resting, first_left, first_given, joined, spent, Stands, Took, took, Changes, stored}
+use Rattle.b1_rule.specs.Rule.{LedTo, total, times, names_peer, whole, IsHeld, Knows, IsFree, IsTaken, Kept}
+use Rattle.b1_rule.specs.Plays.{Sat, naming, first_left, first_given, joined, spent, Stands, took, Changes, stored}
 use Rattle.b1_rule.specs.declared.view.View.{View}
-use Rattle.b1_rule.proofs.Sums.{at_set, set_here, set_else, at_snoc, at_home, there, only_one, past_first, up_to_first, in_either, total-append, total-cut, total-set, term_le, terms_le, part_le}
+use Rattle.b1_rule.proofs.Sums.{at_set, set_here, set_else, at_snoc, there, only_one, past_first, up_to_first, in_either, total-append, total-cut, total-set, term_le, terms_le, part_le}
 
 -- ---- steps
 

@@ -1,16 +1,16 @@
 -- Where one seat has all drivers' parts: the rule holds of a table as it is made, and the state of a table that is closed is reached.
-use Rattle.std.proofs.Common.{◌≡◌, ◌⊎◌, ℕ, zero, suc, ◌+◌, ◌<◌, ◌≤◌, ◌==◌, Bool, true, false, cond, ◌≢◌, List, [], ◌∷◌, ◌++◌, map, length, get_or, set, sym, refl, ap, ◌∙◌, subst, inl, inr, ⊎_elim, arith, Option, Some, None, slice_get, slice_index}
+use Rattle.std.proofs.Common.{◌≡◌, ℕ, zero, suc, ◌+◌, ◌<◌, ◌≤◌, ◌==◌, cond, ◌≢◌, List, [], ◌∷◌, map, length, sym, refl, ap, ◌∙◌, subst, inl, inr, arith, Option, Some, None, slice_get, slice_index}
 use Rattle.std.proofs.Common.{eq-eqb, ne_eqb}
 use Rattle.std.proofs.lemmas.List.{length-map}
 use Rattle.std.proofs.lemmas.Option.{same_Some, slice_get_within}
 use mathlib.Core.Logic.{dite}
-use mathlib.Core.Option.{some, none, some-injective, some-ne-none}
+use mathlib.Core.Option.{some, some-injective, some-ne-none}
 use native.Mathlib.Decide.{ℕ_discrete}
 use lib.ListN.{get_elem?}
 use Rattle.atomic_table.specs.Table.{State as Table, opening, Final, Seen}
 use Rattle.b1_model.specs.declared.naming.Opening.{Opening}
 use Rattle.b1_model.specs.Opening.{IsOpening}
-use Rattle.b1_model.specs.MachineParts.{PeerPart, DriverPart, State}
+use Rattle.b1_model.specs.MachineParts.{State}
 use Rattle.b1_model.specs.MachineStep.{Reached}
 use Rattle.b1_step.specs.Fixed.{IsNumbered}
 use Rattle.b1_step.proofs.Numbers.{reached_numbered}
@@ -19,10 +19,10 @@ use Rattle.b1_driver.specs.Parts.{Driver}
 use Rattle.b1_event.specs.Borne.{AreShort}
 use Rattle.b1_event.specs.Events.{HasUsers}
 use Rattle.b1_rule.specs.Known.{Found, Holding}
-use Rattle.b1_rule.specs.Rule.{LedTo, state_of, total, times, names_peer, whole, holding, held_by, IsHeld, Knows, IsFree, IsTaken, Kept}
+use Rattle.b1_rule.specs.Rule.{LedTo, state_of, total, times, names_peer, whole, holding, held_by, IsHeld, Knows, IsFree, Kept}
 use Rattle.b1_rule.specs.declared.view.View.{View}
-use Rattle.b1_rule.proofs.Sums.{at_home, there, term_le, terms_le}
-use Rattle.b1_rule.proofs.Keeps.{reached_now, names_it, has_it}
+use Rattle.b1_rule.proofs.Sums.{at_home, there, terms_le}
+use Rattle.b1_rule.proofs.Keeps.{reached_now, has_it}
 
 -- ---- lists
 

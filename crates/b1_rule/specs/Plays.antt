@@ -10,7 +10,7 @@ use Rattle.b1_model.specs.MachineStep.{LocalStep, Reached, target}
 use Rattle.b1_peer.specs.Seen.{PeerSeen}
 use Rattle.b1_event.specs.Borne.{AreShort, call_limit}
 use Rattle.b1_event.specs.Events.{HasUsers}
-use Rattle.b1_rule.specs.Known.{Found, Holding}
+use Rattle.b1_rule.specs.Known.{Holding}
 use Rattle.b1_rule.specs.Rule.{whole, IsHeld}
 use Rattle.b1_rule.specs.declared.view.View.{View}
 

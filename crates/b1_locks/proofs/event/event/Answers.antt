@@ -1,4 +1,4 @@
-use Rattle.std.proofs.Common.{◌≡◌, ◌<◌, sym, ap, ◌∙◌, subst, arith}
+use Rattle.std.proofs.Common.{◌≡◌, ap, ◌∙◌, subst, arith}
 use Rattle.b1_model.specs.MachineDriver.{next_action, peer_of}
 use Rattle.b1_rule.specs.Plays.{Took}
 use Rattle.b1_locks.proofs.Events.{aims_within}

@@ -1,4 +1,4 @@
-use Rattle.std.proofs.Common.{◌≡◌, ◌∙◌, ◌+◌, ap, length, Some, arith}
+use Rattle.std.proofs.Common.{ap, length, Some, arith}
 use Rattle.b1_rule.specs.Rule.{holding}
 use Rattle.b1_locks.proofs.Runs.{begins_here}
 use Rattle.b1_locks.proofs.run.run.Goals as goal

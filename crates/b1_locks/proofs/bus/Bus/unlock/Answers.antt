@@ -1,7 +1,7 @@
-use Rattle.std.proofs.Common.{rules, ◌≡◌, ◌<◌, [], sym, subst, arith}
+use Rattle.std.proofs.Common.{rules, ◌<◌, [], sym, subst, arith}
 use mathlib.Core.Option.{none}
 use Rattle.atomic_table.specs.Table.{step, Allows}
-use Rattle.b1_rule.specs.Rule.{holding, state_of, Kept}
+use Rattle.b1_rule.specs.Rule.{state_of, Kept}
 use Rattle.b1_rule.specs.Plays.{Changes, stored}
 use Rattle.b1_rule.proofs.Keeps.{gives_lock}
 use Rattle.b1_locks.proofs.bus.Bus.unlock.Goals as goal

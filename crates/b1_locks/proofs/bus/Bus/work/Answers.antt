@@ -49,7 +49,7 @@ returns-clause-stepped g c =
     let (before, command, k) = c.requires.lock in
     let same = slot_is m.1 q k.took.seen c.slot_mut-peer.result.now (slot_of o before command m q d k) c.slot_mut-peer.ensures.value in
     let does : Does o d k.took.seen c.do_one.new.driver c.do_one.new.at =
-    subst (λ x. Does o d x c.do_one.new.driver c.do_one.new.at) (sym same) (subst (λ a. Does a d c.slot_mut-peer.result.now c.do_one.new.driver c.do_one.new.at) (ap (λ b. b.opening) c.self.view_is) c.do_one.ensures) in
+    subst (λ x. Does o d x c.do_one.new.driver c.do_one.new.at) (sym same) (subst (λ a. Does a d c.slot_mut-peer.result.now c.do_one.new.driver c.do_one.new.at) (ap (λ b. b.opening) c.self.view_is) c.do_one.ensures.does) in
     stepped_here o bears before command m q d k c.do_one.new.driver c.do_one.new.at does _ refl
 
 pub returns-clause-moved : goal.returns-clause-moved
@@ -61,5 +61,5 @@ returns-clause-moved g c = λ before command k.
     let bears = c.reached_states_bear_events.ensures in
     let same = slot_is m.1 q k.took.seen c.slot_mut-peer.result.now (slot_of o before command m q d k) c.slot_mut-peer.ensures.value in
     let does : Does o d k.took.seen c.do_one.new.driver c.do_one.new.at =
-    subst (λ x. Does o d x c.do_one.new.driver c.do_one.new.at) (sym same) (subst (λ a. Does a d c.slot_mut-peer.result.now c.do_one.new.driver c.do_one.new.at) (ap (λ b. b.opening) c.self.view_is) c.do_one.ensures) in
+    subst (λ x. Does o d x c.do_one.new.driver c.do_one.new.at) (sym same) (subst (λ a. Does a d c.slot_mut-peer.result.now c.do_one.new.driver c.do_one.new.at) (ap (λ b. b.opening) c.self.view_is) c.do_one.ensures.does) in
     moved_here o bears before command m q d k c.do_one.new.driver c.do_one.new.at does
