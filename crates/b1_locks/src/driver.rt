@@ -114,14 +114,6 @@ impl<Q: QueueKind, P: PoolKind> Driver<Q, P> {
         self.hand.state.calls()
     }
 
-    /// What the last attempt that had to wait found at the front, and how many entries it removed; `None` where there was
-    /// no such attempt.
-    pub fn attempted(&self) -> Option<(Front, u64)>
-        ensures { result ≡ self.now.own.part.attempted }
-    {
-        self.hand.state.attempted()
-    }
-
     /// Whether the peer has disconnected.
     pub fn is_shut(&self) -> bool
         ensures { result ≡ self.now.own.part.shut }
