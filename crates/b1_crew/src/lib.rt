@@ -5,4 +5,4 @@ mod crew;
 mod parts;
 
 pub use crew::Crew;
-pub use parts::{Part, beside};
+pub use parts::{Part, beside, has_room};

@@ -1,4 +1,5 @@
-ghost use Rattle.std.specs.Prelude.{◌≡◌, ℕ, length, slice_get, Some};
+ghost use Rattle.std.specs.Prelude.{◌≡◌, ℕ, ◌+◌, ◌<◌, ◌≤◌, true, length, slice_get, Some};
+ghost use Rattle.b1_event.specs.Borne.{call_limit};
 ghost use Rattle.b1_locks.specs.Faces.{DriverFace, IsOf};
 ghost use Rattle.b1_crew.specs.Parts.{AreAll, IsStill};
 
@@ -62,4 +63,15 @@ pub fn beside<R: Threads + Wait + Sync, G: Gate + Sync, P: Part + Sync>(
     ensures { AreAll bus.now drivers.new }
 {
     play_all(rt, alloc, bus, gate, part, drivers);
+}
+
+/// Makes room for at least `n` more calls of a driver whose calls and these together are below 2^25, and answers whether
+/// there is. Where it isn't, memory was wanting, and all is as it was.
+pub fn has_room(driver: &mut Driver, n: usize) -> bool
+    requires { length driver.old.own.part.calls + n < call_limit }
+    ensures room { result ≡ true → n ≤ driver.new.own.spare }
+    ensures calls { driver.new.own.part ≡ driver.old.own.part }
+    ensures still { IsStill driver.old driver.new }
+{
+    driver.reserve(n).is_ok()
 }

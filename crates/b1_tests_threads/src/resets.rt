@@ -1,0 +1,6 @@
+use std::test::Fail;
+
+#[test]
+fn nothing_yet(rt: HostRuntime) -> Result<(), Fail> {
+    Ok(())
+}
