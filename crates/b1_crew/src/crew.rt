@@ -5,9 +5,13 @@ ghost use Rattle.b1_rule.specs.Rule.{state_of, LedTo};
 ghost use Rattle.b1_model.specs.Opening.{IsOpening};
 ghost use Rattle.b1_model.specs.MachineStep.{opening_state};
 
+use crate::parts::{Part, beside};
 use b1_bus::{Bus, Closed, Driver, close, make};
+use b1_edge::Gate;
 use b1_model::Opening;
 use std::alloc::{AllocError, Global};
+use std::sync::Wait;
+use std::thread::Threads;
 
 /// A bus with all its drivers, in the order of their peers.
 #[derive(Drop)]
@@ -38,6 +42,26 @@ impl Crew {
     {
         let (bus, drivers) = closed.reopen(alloc)?;
         Ok(Crew { bus, drivers })
+    }
+
+    /// All drivers do their parts beside each other, each in a thread of its own.
+    pub fn play<R: Threads + Wait + Sync, G: Gate + Sync, P: Part + Sync>(
+        &mut self,
+        rt: &R,
+        alloc: Global,
+        gate: &G,
+        part: &P,
+    )
+        ensures { self.new.bus ≡ self.old.bus }
+    {
+        beside(
+            rt,
+            alloc,
+            &self.bus,
+            gate,
+            part,
+            self.drivers.as_mut_slice(),
+        );
     }
 
     /// Closes the bus. An error is want of memory.

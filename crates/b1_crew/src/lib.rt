@@ -5,4 +5,4 @@ mod crew;
 mod parts;
 
 pub use crew::Crew;
-pub use parts::{Part, beside, has_room};
+pub use parts::{Part, Times, has_room};

@@ -23,10 +23,36 @@ pub trait Part {
         driver: &mut Driver,
     )
         requires { IsOf driver.old bus.now }
-        ensures { IsStill driver.old driver.new };
+        ensures own { IsOf driver.new bus.now }
+        ensures still { IsStill driver.old driver.new };
 }
 
-/// Drivers of a bus do their parts beside each other.
+/// A part that is done so many times.
+#[derive(Clone, Copy, Debug)]
+pub struct Times<P> {
+    /// The part.
+    pub part: P,
+    /// How many times.
+    pub times: usize,
+}
+
+impl<P: Part> Part for Times<P> {
+    fn play<R: Wait, G: Gate>(
+        &self,
+        rt: &R,
+        alloc: Global,
+        bus: &Bus,
+        gate: &G,
+        peer: usize,
+        driver: &mut Driver,
+    ) {
+        for _ in 0..self.times {
+            self.part.play(rt, alloc, bus, gate, peer, driver);
+        }
+    }
+}
+
+// Drivers of a bus do their parts beside each other.
 fn play_all<R: Threads + Wait + Sync, G: Gate + Sync, P: Part + Sync>(
     rt: &R,
     alloc: Global,
@@ -49,9 +75,9 @@ fn play_all<R: Threads + Wait + Sync, G: Gate + Sync, P: Part + Sync>(
     );
 }
 
-/// The drivers of a bus do their parts beside each other, each in a thread of its own.
+// All drivers of a bus do their parts beside each other, each in a thread of its own.
 #[tactic(auto, using(crate::proofs::Crews::all_still))]
-pub fn beside<R: Threads + Wait + Sync, G: Gate + Sync, P: Part + Sync>(
+pub(crate) fn beside<R: Threads + Wait + Sync, G: Gate + Sync, P: Part + Sync>(
     rt: &R,
     alloc: Global,
     bus: &Bus,

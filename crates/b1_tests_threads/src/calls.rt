@@ -28,7 +28,8 @@ pub fn send<R: Wait, G: Gate>(
     to: &[u64],
 )
     requires { IsOf driver.old bus.now }
-    ensures { IsStill driver.old driver.new }
+    ensures own { IsOf driver.new bus.now }
+    ensures still { IsStill driver.old driver.new }
 {
     if driver.spare() == 0 {
         return;
@@ -41,7 +42,8 @@ pub fn send<R: Wait, G: Gate>(
 // A driver with room for a call receives.
 pub fn receive<R: Wait, G: Gate>(rt: &R, bus: &Bus, gate: &G, driver: &mut Driver)
     requires { IsOf driver.old bus.now }
-    ensures { IsStill driver.old driver.new }
+    ensures own { IsOf driver.new bus.now }
+    ensures still { IsStill driver.old driver.new }
 {
     if driver.spare() > 0 {
         let _ = driver.recv(rt, bus, gate);
@@ -51,21 +53,17 @@ pub fn receive<R: Wait, G: Gate>(rt: &R, bus: &Bus, gate: &G, driver: &mut Drive
 // A driver with room for a call tries to receive, and says whether it took something.
 pub fn take<R: Wait, G: Gate>(rt: &R, bus: &Bus, gate: &G, driver: &mut Driver) -> bool
     requires { IsOf driver.old bus.now }
-    ensures { IsStill driver.old driver.new }
+    ensures own { IsOf driver.new bus.now }
+    ensures still { IsStill driver.old driver.new }
 {
     driver.spare() > 0 && matches!(driver.attempt(rt, bus, gate), Tried::Got)
 }
 
 // A driver with room for a call resets.
-pub fn reset<R: Wait, G: Gate>(
-    rt: &R,
-    bus: &Bus,
-    gate: &G,
-    driver: &mut Driver,
-    limits: Limits,
-)
+pub fn reset<R: Wait, G: Gate>(rt: &R, bus: &Bus, gate: &G, driver: &mut Driver, limits: Limits)
     requires { IsOf driver.old bus.now }
-    ensures { IsStill driver.old driver.new }
+    ensures own { IsOf driver.new bus.now }
+    ensures still { IsStill driver.old driver.new }
 {
     if driver.spare() > 0 {
         let _ = driver.reset(rt, bus, gate, limits);

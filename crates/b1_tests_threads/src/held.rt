@@ -1,7 +1,7 @@
 use crate::calls::send;
 use crate::openings::{four_peers, wire};
 use b1_bus::{Bus, Closed, Driver};
-use b1_crew::{Crew, Part, beside, has_room};
+use b1_crew::{Crew, Part, has_room};
 use b1_edge::{Gate, HoldGate, Point};
 use b1_model::{Answer, Call, valid_opening};
 use std::alloc::Global;
@@ -86,9 +86,11 @@ fn is_one_sent(calls: &[Call], places: usize) -> bool {
 
 // Whether drivers 0 and 1 of a closed bus each have sent one message, to so many places.
 fn have_both_sent(closed: &Closed, places: usize) -> bool {
-    closed.count() == 4
-        && is_one_sent(closed.calls(0), places)
-        && is_one_sent(closed.calls(1), places)
+    closed.facts();
+    if closed.count() != 4 {
+        return false;
+    }
+    is_one_sent(closed.calls(0), places) && is_one_sent(closed.calls(1), places)
 }
 
 // Two drivers stand between two events of a SEND each at the same time.
@@ -108,8 +110,8 @@ fn drivers_stand_between_events_at_once(rt: HostRuntime) -> Result<(), Fail> {
         event: 2,
     };
     let gate = HoldGate::make(one, other, TURNS);
-    beside(&rt, alloc, &crew.bus, &gate, &MakesRoom, crew.drivers.as_mut_slice());
-    beside(&rt, alloc, &crew.bus, &gate, &Crossing, crew.drivers.as_mut_slice());
+    crew.play(&rt, alloc, &gate, &MakesRoom);
+    crew.play(&rt, alloc, &gate, &Crossing);
     assert!(rt; gate.met());
     assert!(rt; !gate.ran_out());
     assert!(rt; have_both_sent(&crew.close(alloc)?, 2));
@@ -126,8 +128,8 @@ fn drivers_hold_two_locks_at_once(rt: HostRuntime) -> Result<(), Fail> {
     let one = Point::Under { driver: 0, peer: 2 };
     let other = Point::Under { driver: 1, peer: 3 };
     let gate = HoldGate::make(one, other, TURNS);
-    beside(&rt, alloc, &crew.bus, &gate, &MakesRoom, crew.drivers.as_mut_slice());
-    beside(&rt, alloc, &crew.bus, &gate, &Apart, crew.drivers.as_mut_slice());
+    crew.play(&rt, alloc, &gate, &MakesRoom);
+    crew.play(&rt, alloc, &gate, &Apart);
     assert!(rt; gate.met());
     assert!(rt; !gate.ran_out());
     assert!(rt; have_both_sent(&crew.close(alloc)?, 1));
