@@ -1,14 +1,12 @@
 -- The drivers of a bus, in the order of their peers.
-use Rattle.std.proofs.Common.{◌≡◌, ℕ, zero, suc, ◌+◌, ◌≤◌, ◌<◌, List, [], ◌∷◌, ◌++◌, map, length, get_or, slice_get, Some, None, refl, sym, ap, ◌∙◌, subst, arith}
+use Rattle.std.proofs.Common.{◌≡◌, ℕ, zero, suc, ◌+◌, List, [], ◌∷◌, map, length, slice_get, Some, refl, ap, ◌∙◌, subst, arith}
 use Rattle.std.specs.List.{AllByRecursion}
-use Rattle.std.proofs.lemmas.List.{length-map}
 use Rattle.atomic_table.specs.Seated.{TableId}
 use Rattle.b1_model.specs.declared.naming.Opening.{Opening}
 use Rattle.b1_model.specs.declared.naming.PeerSpec.{PeerSpec}
-use Rattle.b1_model.specs.MachineParts.{DriverPart}
 use Rattle.b1_driver.specs.Parts.{Driver}
-use Rattle.b1_locks.specs.Faces.{BusFace, DriverFace, Member, IsIdle, member, members, crew_from, crew}
-use Rattle.b1_bus.specs.Seated.{seated, IsSeated, IsOn}
+use Rattle.b1_locks.specs.Faces.{BusFace, DriverFace, Member, member, members, crew_from}
+use Rattle.b1_bus.specs.Seated.{seated, IsOn}
 
 -- ---- lists
 

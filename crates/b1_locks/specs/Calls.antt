@@ -11,9 +11,12 @@ use Rattle.b1_model.specs.declared.answers.Tried.TheVariants.{Got, Shut, Waiting
 use Rattle.b1_model.specs.declared.commands.Command.{Command}
 use Rattle.b1_model.specs.declared.commands.Command.TheVariants as cmd
 use Rattle.b1_model.specs.declared.answers.Receipt.{Receipt}
+use Rattle.b1_model.specs.declared.answers.Refused.{Refused}
+use Rattle.b1_model.specs.declared.commands.SendCmd.{SendCmd}
+use Rattle.std.specs.Borrow.{Bor}
 use Rattle.b1_model.specs.MachineTook.{as_call}
 use Rattle.b1_inv_answers.specs.Answers.{IsAnswered}
-use Rattle.b1_edge.specs.Ports.{refused_with, with_call}
+use Rattle.b1_edge.specs.Ports.{received_answer, refused_with, with_call}
 use Rattle.b1_commands.specs.Done.{Comes, RefusesRight, is_shutdown, leaves}
 use Rattle.b1_locks.specs.Faces.{DriverFace, member}
 
@@ -75,3 +78,11 @@ HasTried d (Waiting front removed) e = Waits d front removed e
 abbrev pub FitsIn : ℕ → Answer → Type 0
 FitsIn n (answer.Sent b) = length b.places ≤ n
 FitsIn n got = ⊤
+
+-- a driver has done a SEND that was refused
+abbrev pub RefusesSend : DriverFace → SendCmd → DriverFace → Type 0
+RefusesSend d s e = (b : Refused) × (e.own.part.calls ≡ with_call (cmd.Send s) (answer.Refused b) d.own.part.calls) × Did d (cmd.Send s) (answer.Refused b) e
+
+-- a driver has done a RECV, whose answer is lent out of its list
+abbrev pub HasReceived : DriverFace → Result (Bor Receipt) Reason → DriverFace → Type 0
+HasReceived d result e = (e.own.part.calls ≡ with_call cmd.Recv (received_answer result) d.own.part.calls) × Did d cmd.Recv (received_answer result) e

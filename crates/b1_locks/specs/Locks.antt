@@ -2,7 +2,11 @@
 use Rattle.std.specs.Prelude.{◌≡◌, ℕ, ◌+◌, ◌<◌, ◌≤◌, [], ◌∷◌, length, Option, Some, Err}
 use Rattle.b1_model.specs.declared.naming.Opening.{Opening}
 use Rattle.b1_model.specs.declared.commands.Command.{Command}
+use Rattle.b1_model.specs.declared.answers.Answer.TheVariants as answer
 use Rattle.b1_model.specs.declared.answers.Reason.{Reason}
+use Rattle.b1_model.specs.declared.answers.Refused.{Refused}
+use Rattle.b1_model.specs.declared.commands.Command.TheVariants as cmd
+use Rattle.b1_model.specs.declared.commands.SendCmd.{SendCmd}
 use Rattle.b1_model.specs.declared.events.Outcome.TheVariants as out
 use Rattle.b1_model.specs.MachineParts.{PeerPart, DriverPart}
 use Rattle.b1_model.specs.MachineTook.{took}
@@ -13,6 +17,7 @@ use Rattle.b1_driver.specs.Parts.{Driver}
 use Rattle.b1_event.specs.Borne.{call_limit}
 use Rattle.b1_rule.specs.Known.{Holding}
 use Rattle.b1_rule.specs.Plays.{Sat, naming, resting, Changes, Took}
+use Rattle.b1_edge.specs.Ports.{with_call}
 use Rattle.b1_commands.specs.Done.{Moves}
 use Rattle.b1_locks.specs.Faces.{StandsIn}
 
@@ -65,3 +70,7 @@ pub record HasMoved (o : Opening) (before : Holding) (command : Option Command) 
 -- the begin of a SEND was refused
 abbrev pub IsBeginRefused : DriverPart → DriverPart → Type 0
 IsBeginRefused d e = (r : Reason) × (e ≡ took d (out.Begin (Err r)))
+
+-- a SEND was refused, and that is one call more
+abbrev pub IsSendRefused : DriverPart → SendCmd → DriverPart → Type 0
+IsSendRefused d s e = (b : Refused) × (e.calls ≡ with_call (cmd.Send s) (answer.Refused b) d.calls)

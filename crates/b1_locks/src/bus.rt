@@ -68,7 +68,8 @@ impl<Q: QueueKind, P: PoolKind> Bus<Q, P> {
         ensures opening { result.1 ≡ self.opening }
         ensures key { result.0.shared.key.opening.value ≡ self.opening }
         ensures first { self.first
-            ≡ state_of result.0.shared.key.peers.value.items result.0.shared.key.drivers.value.items }
+            ≡ state_of result.0.shared.key.peers.value.items
+            result.0.shared.key.drivers.value.items }
         ensures words { self.table.words ≡ length self.opening.peers }
         ensures slots { self.table.slots ≡ length self.opening.peers }
         ensures some { 0 < length self.opening.peers }

@@ -15,8 +15,8 @@ use std::sync::Wait;
 
 // Each command adds exactly one call to the list: itself, with the answer that it returns. It takes no memory.
 impl<Q: QueueKind, P: PoolKind> Driver<Q, P> {
-    /// HANDLE_RELEASE: gives up a held handle once. Refusals: Shutdown, Invalid where it is no given number by its form, Unknown
-    /// where it isn't held.
+    /// HANDLE_RELEASE: gives up a held handle once. Refusals: Shutdown, Invalid where it is no given number by its
+    /// form, Unknown where it isn't held.
     pub fn release<R: Wait, G: Gate>(
         &mut self,
         rt: &R,
@@ -34,8 +34,9 @@ impl<Q: QueueKind, P: PoolKind> Driver<Q, P> {
         done(self.last_answer())
     }
 
-    /// NODES_DESTROY: destroys own nodes, and answers the destruction's stamp, which is even. Refusals: Shutdown, Invalid by the
-    /// form of the list, Overflow where the clock is 2^62 or more, Unknown for the first number that names no live node.
+    /// NODES_DESTROY: destroys own nodes, and answers the destruction's stamp, which is even. Refusals: Shutdown,
+    /// Invalid by the form of the list, Overflow where the clock is 2^62 or more, Unknown for the first number that
+    /// names no live node.
     pub fn destroy<R: Wait, G: Gate>(
         &mut self,
         rt: &R,
@@ -46,15 +47,16 @@ impl<Q: QueueKind, P: PoolKind> Driver<Q, P> {
         requires own { IsOf self.old bus.now }
         requires spare { 1 ≤ self.old.own.spare }
         ensures call { self.new.own.part.calls
-            ≡ with_call (command.Destroy numbers) (destroyed_answer result) self.old.own.part.calls }
+            ≡ with_call (command.Destroy numbers) (destroyed_answer result)
+            self.old.own.part.calls }
         ensures did { Did self.old (command.Destroy numbers) (destroyed_answer result) self.new }
     {
         self.add_call(rt, bus, gate, Command::Destroy { numbers });
         destroyed(self.last_answer())
     }
 
-    /// SLICE_RELEASE: gives back the received slice that begins at an offset, in bytes. Refusals: Shutdown, Unknown where none
-    /// begins there.
+    /// SLICE_RELEASE: gives back the received slice that begins at an offset, in bytes. Refusals: Shutdown, Unknown
+    /// where none begins there.
     pub fn slice_release<R: Wait, G: Gate>(
         &mut self,
         rt: &R,
@@ -89,8 +91,9 @@ impl<Q: QueueKind, P: PoolKind> Driver<Q, P> {
         info(self.last_answer())
     }
 
-    /// PEER_RESET with flush: destroys all own live nodes, empties the queue, gives all handles up and sets new limits. Answers
-    /// the destruction's stamp, `None` where no node was live. Refusals: Shutdown, Overflow where the clock is 2^62 or more.
+    /// PEER_RESET with flush: destroys all own live nodes, empties the queue, gives all handles up and sets new limits.
+    /// Answers the destruction's stamp, `None` where no node was live. Refusals: Shutdown, Overflow where the clock is
+    /// 2^62 or more.
     pub fn reset<R: Wait, G: Gate>(
         &mut self,
         rt: &R,
@@ -126,8 +129,8 @@ impl<Q: QueueKind, P: PoolKind> Driver<Q, P> {
         done(self.last_answer())
     }
 
-    /// PEER_DISCONNECT: as `reset`, with the limits kept. Where it isn't refused the driver is shut: from then on it refuses every
-    /// command with Shutdown.
+    /// PEER_DISCONNECT: as `reset`, with the limits kept. Where it isn't refused the driver is shut: from then on it
+    /// refuses every command with Shutdown.
     pub fn disconnect<R: Wait, G: Gate>(
         &mut self,
         rt: &R,

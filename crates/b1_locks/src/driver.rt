@@ -37,7 +37,11 @@ impl<Q: QueueKind, P: PoolKind> Model for Driver<Q, P> {
 
     ghost Value = { DriverFace };
 
-    ghost view = { λ d. record { table = d.hand.seat.table_id; opening = d.hand.seat.me.0.opening; own = d.hand.state } };
+    ghost view = { λ d. record {
+      table = d.hand.seat.table_id;
+      opening = d.hand.seat.me.0.opening;
+      own = d.hand.state;
+    } };
 
     ghost invariant = { λ d. record {
       rests : d.hand.seat.me ≡ resting d.hand.seat.me.0.opening (holding d.hand.state);
@@ -85,8 +89,7 @@ impl<Q: QueueKind, P: PoolKind> Driver<Q, P> {
         (seat, state)
     }
 
-    /// Makes room for at least `n` calls in all that fit with no memory. An error is want of memory, and leaves all as it
-    /// was.
+    /// Makes room for at least `n` calls that fit with no memory. An error is want of memory, and leaves all as it was.
     pub fn reserve(&mut self, n: usize) -> Result<(), AllocError>
         requires few { length self.old.own.part.calls + n < call_limit }
         ensures ok { OnOk result (self.new ≡ record self.old {
@@ -121,8 +124,8 @@ impl<Q: QueueKind, P: PoolKind> Driver<Q, P> {
         self.hand.state.is_shut()
     }
 
-    /// The front that the last attempt which had to wait found, and how many entries it removed; `None` where there was no
-    /// such attempt.
+    /// The front that the last attempt which had to wait found, and how many entries it removed; `None` where there was
+    /// no such attempt.
     pub fn attempted(&self) -> Option<(Front, u64)>
         ensures { result ≡ self.now.own.part.attempted }
     {

@@ -20,7 +20,8 @@ use std::marker::Brand;
 use std::sync::Wait;
 
 /// One event of a driver whose command is open: it takes the lock of the peer where the event is, works on the peer's
-/// state, and gives the lock back. Where `short`, a SEND that begins is refused for want of memory if nothing else refuses it.
+/// state, and gives the lock back. Where `short`, a SEND that begins is refused for want of memory if nothing else
+/// refuses it.
 pub fn event<Q: QueueKind, P: PoolKind, R: Wait, G: Gate>(
     rt: &R,
     bus: &Bus<Q, P>,

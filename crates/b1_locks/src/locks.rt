@@ -28,8 +28,8 @@ impl<Q: QueueKind, P: PoolKind> Bus<Q, P> {
         unreachable!()
     }
 
-    /// Gives the lock of a peer back, with the peer's state: one step of the machine. Then it wakes one driver that waits
-    /// for this lock.
+    /// Gives the lock of a peer back, with the peer's state: one step of the machine. Then it wakes one driver that
+    /// waits for this lock.
     pub(crate) fn unlock<J: Becoming>(
         &self,
         seat: &mut Place<Q, P>,

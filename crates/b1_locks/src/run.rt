@@ -1,13 +1,10 @@
 ghost use Rattle.std.specs.Prelude.{◌≡◌, ◌+◌, ◌≤◌, ℕ, None, false, length};
-ghost use Rattle.b1_model.specs.declared.answers.Answer.TheVariants as answer;
-ghost use Rattle.b1_model.specs.declared.answers.Refused.{Refused};
 ghost use Rattle.b1_model.specs.declared.commands.Command.TheVariants as command;
-ghost use Rattle.b1_edge.specs.Ports.{with_call};
 ghost use Rattle.b1_rule.specs.Plays.{resting};
 ghost use Rattle.b1_rule.specs.Rule.{holding};
 ghost use Rattle.b1_commands.specs.Done.{Comes, GoesOn};
 ghost use Rattle.b1_locks.specs.Faces.{IsIdle, StandsIn};
-ghost use Rattle.b1_locks.specs.Locks.{IsFit};
+ghost use Rattle.b1_locks.specs.Locks.{IsFit, IsSendRefused};
 
 use crate::bus::Bus;
 use crate::driver::Hand;
@@ -45,8 +42,8 @@ pub fn run<Q: QueueKind, P: PoolKind, R: Wait, G: Gate>(
     go_on(rt, bus, gate, hand);
 }
 
-/// Begins a SEND where there is no memory for its answer: it is refused at once, for want of memory if nothing else refuses
-/// it.
+/// Begins a SEND where there is no memory for its answer: it is refused at once, for want of memory if nothing else
+/// refuses it.
 pub fn run_short<Q: QueueKind, P: PoolKind, R: Wait, G: Gate>(
     rt: &R,
     bus: &Bus<Q, P>,
@@ -63,11 +60,12 @@ pub fn run_short<Q: QueueKind, P: PoolKind, R: Wait, G: Gate>(
     ensures rests { hand.new.seat.me ≡ resting bus.now.opening (holding hand.new.state) }
     ensures idle { IsIdle hand.new.state }
     ensures stands { StandsIn bus.now.opening hand.new.state.part }
-    ensures steps { Comes bus.now.opening hand.old.state.part (command.Send send) hand.new.state.part }
+    ensures steps { Comes bus.now.opening hand.old.state.part (command.Send send)
+        hand.new.state.part }
     ensures spare { hand.new.state.spare + length hand.new.state.part.calls
         ≡ hand.old.state.spare + length hand.old.state.part.calls }
     ensures refused { hand.old.state.part.shut ≡ false
-        → (b : Refused) × (hand.new.state.part.calls ≡ with_call (command.Send send) (answer.Refused b) hand.old.state.part.calls) }
+        → IsSendRefused hand.old.state.part send hand.new.state.part }
 {
     every_reached_state_is_sound();
     hand.state.begin(Command::Send(send));

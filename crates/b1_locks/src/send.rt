@@ -1,10 +1,8 @@
 ghost use Rattle.std.specs.Prelude.{◌≡◌, ◌≤◌};
-ghost use Rattle.b1_model.specs.declared.answers.Answer.TheVariants as answer;
-ghost use Rattle.b1_model.specs.declared.answers.Refused.{Refused as Refusal};
 ghost use Rattle.b1_model.specs.declared.commands.Command.TheVariants as command;
 ghost use Rattle.b1_edge.specs.Ports.{sent_answer, with_call};
 ghost use Rattle.b1_locks.specs.Faces.{IsOf};
-ghost use Rattle.b1_locks.specs.Calls.{Did};
+ghost use Rattle.b1_locks.specs.Calls.{Did, RefusesSend};
 
 use crate::answers::{refused, sent};
 use crate::bus::Bus;
@@ -20,9 +18,10 @@ use std::alloc::Global;
 use std::sync::Wait;
 
 impl<Q: QueueKind, P: PoolKind> Driver<Q, P> {
-    /// SEND: sends one message to the nodes that its numbers name, and answers the message's stamp, which is even, and what
-    /// each destination answered. A refusal names the destination's place where it is one's, and leaves no entry, slice or
-    /// charge; nodes that the begin made stay. All memory that a SEND needs at its driver is taken before its nodes are made.
+    /// SEND: sends one message to the nodes that its numbers name, and answers the message's stamp, which is even, and
+    /// what each destination answered. A refusal names the destination's place where it is one's, and leaves no entry,
+    /// slice or charge; nodes that the begin made stay. All memory that a SEND needs at its driver is taken before its
+    /// nodes are made. It may be refused for any reason but Again.
     pub fn send<R: Wait, G: Gate>(
         &mut self,
         rt: &R,
@@ -53,8 +52,7 @@ impl<Q: QueueKind, P: PoolKind> Driver<Q, P> {
     fn refuse_send<R: Wait, G: Gate>(&mut self, rt: &R, bus: &Bus<Q, P>, gate: &G, send: SendCmd)
         requires own { IsOf self.old bus.now }
         requires spare { 1 ≤ self.old.own.spare }
-        ensures { (b : Refusal) × (self.new.own.part.calls
-            ≡ with_call (command.Send send) (answer.Refused b) self.old.own.part.calls) × Did self.old (command.Send send) (answer.Refused b) self.new }
+        ensures { RefusesSend self.old send self.new }
     {
         commands_are_answered();
         let before = self.hand.state.calls().len();

@@ -8,3 +8,5 @@ pub use Rattle.b1_model.specs.MachineDriver
 pub use Rattle.b1_model.specs.Opening
 pub use Rattle.b1_schedule.specs.Schedule
 pub use Rattle.b1_schedule.specs.Shortage
+pub use Rattle.b1_serial_bus.specs.Report
+pub use Rattle.b1_serial_law.specs.Ample

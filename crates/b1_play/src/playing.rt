@@ -16,6 +16,7 @@ use b1_play_legal::plays_are_legal;
 use b1_pool::{ListPool, PoolKind};
 use b1_queue::{PlainQueue, QueueKind};
 use b1_script::Script;
+use b1_serial_law::plays_without_turns_are_serial;
 use std::alloc::{AllocError, Global};
 
 /// What a play came to.
@@ -28,8 +29,8 @@ pub enum Played {
 }
 
 /// Plays a script: its turns, then rounds, then the drain. What ends is a legal and whole record that has the commands of
-/// the script, and what stalls has a legal one. An error is want of memory, also where a play stalls after a SEND that was
-/// refused for memory.
+/// the script, and what stalls has a legal one. Without turns both are the plain serial bus's. An error is want of memory,
+/// also where a play stalls after a SEND that was refused for memory.
 pub fn play_script<Q: QueueKind, P: PoolKind>(
     alloc: Global,
     script: &Script,
@@ -43,6 +44,7 @@ pub fn play_script<Q: QueueKind, P: PoolKind>(
     every_reached_state_is_sound();
     what_is_played_is_scripted();
     plays_are_legal();
+    plays_without_turns_are_serial();
     play_on::<Q, P>(alloc, script)
 }
 

@@ -1,10 +1,12 @@
 -- The record of a state has each driver's calls, and all commands of the script where each list is at its end.
 use Rattle.std.proofs.Common.{◌≡◌, refl, sym, ap, ◌∙◌, subst, ℕ, zero, suc, ◌<◌, ◌≤◌, List, [], ◌∷◌, take, slice_get, length, Option, Some, None}
 use Rattle.std.proofs.lemmas.List.{length-append}
+use Rattle.std.proofs.lemmas.Option.{slice_get_within}
 use native.Mathlib.Omega.{arith}
 use Rattle.b1_model.specs.declared.naming.Opening.{Opening}
 use Rattle.b1_model.specs.declared.commands.Command.{Command}
 use Rattle.b1_model.specs.declared.records.Call.{Call}
+use Rattle.b1_model.specs.declared.records.PeerCalls.{PeerCalls}
 use Rattle.b1_model.specs.declared.records.Record.{Record}
 use Rattle.b1_model.specs.Names.{calls_of, calls_in}
 use Rattle.b1_model.specs.Script.{commands_of, IsInPlace, Script}
@@ -57,6 +59,16 @@ keeps_by commands k calls all ended less None is =
 
     same_length : (a b : ℕ) → a ≤ b → b ≤ a → a ≡ b
     same_length a b less more = omega (arith, less, more)
+
+-- the calls of a script's record are in their places
+pub script_placed : (o : Opening) (lists : List (List Command)) (r : Record) → length r.peers ≡ length o.peers → Script o lists r → (p : ℕ) → AllInPlace (commands_of lists p) (calls_of r p)
+script_placed o lists r count script p k call is =
+    let within = slice_get_within (calls_of r p) k call is in
+    subst (IsInPlace (take k (calls_of r p)) (slice_get (commands_of lists p) k)) is (script p k (there_is (slice_get r.peers p) refl is) (omega (arith, within)))
+  where
+    there_is : (found : Option PeerCalls) → slice_get r.peers p ≡ found → slice_get (calls_of r p) k ≡ Some call → p < length o.peers
+    there_is None none is = absurd (cc (sym is ∙ ap (λ f. slice_get (calls_in f) k) none))
+    there_is (Some x) some is = let less = slice_get_within r.peers p x some in omega (arith, less, count)
 
 pub script_kept : (o : Opening) (lists : List (List Command)) (s : State) → IsNumbered o s → AllFollow lists s → AllEnd lists s → Script o lists (record_of_state s)
 script_kept o lists s numbered all ended p k within =

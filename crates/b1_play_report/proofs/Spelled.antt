@@ -15,6 +15,7 @@ use Rattle.b1_model.specs.declared.records.Record.{Record}
 use Rattle.b1_model.specs.declared.events.Doing.{Doing}
 use Rattle.b1_model.specs.Opening.{IsOpening}
 use Rattle.b1_model.specs.Script.{resolved, fits, ends_await, is_receipt, IsInPlace, commands_of}
+use Rattle.b1_model.specs.Names.{calls_of, calls_in}
 use Rattle.b1_model.specs.MachineParts.{State, PeerPart, DriverPart}
 use Rattle.b1_model.specs.MachineTook.{is_waiting, as_call, call_of, answer_of, fixed_call, open_by, driver_calls}
 use Rattle.b1_model.specs.MachineStep.{Reached, peer_records, record_of_state}
@@ -25,10 +26,10 @@ use Rattle.b1_inv_receipts.proofs.Turns.{fixed_names}
 use Rattle.b1_law.proofs.Reached.{reached_sound}
 use Rattle.b1_schedule.specs.Shortage.{Shortage, no_shortage, shortage_of}
 use Rattle.b1_schedule.specs.Schedule.{Finished, Stalled, Playing, moves, start_of, IsPlay, IsStall}
-use Rattle.b1_play_commands.specs.Following.{Follows, AllFollow}
+use Rattle.b1_play_commands.specs.Following.{AllInPlace}
 use Rattle.b1_report.specs.Report.{IsAnswer, IsWritten, HasSpelling, EachSpelled}
 use Rattle.b1_play_report.specs.Limits.{IsNotLimit, NoLimits}
-use Rattle.b1_play_commands.proofs.Calls.{driver_follows}
+use Rattle.b1_play_commands.proofs.Recorded.{recorded_in_place}
 use Rattle.b1_play_commands.proofs.Plays.{Plays, plays}
 
 -- ---- lists
@@ -118,11 +119,11 @@ module _ (d : DriverPart) (named : NoticesNamed d) where
   calls_name call h = elim (has_append d.calls (open_by d.doing) call h) [ inl old ↦ named.calls call old | inr new ↦ open_names d.doing refl call new ]
 
   -- the calls that stand in a record for the driver
-  calls_spelled : (commands : List Command) → AllByRecursion IsNotLimit commands → Follows commands d → All HasSpelling (driver_calls d)
-  calls_spelled commands none follows =
+  calls_spelled : (commands : List Command) → AllByRecursion IsNotLimit commands → AllInPlace commands (driver_calls d) → All HasSpelling (driver_calls d)
+  calls_spelled commands none placed =
       all_get HasSpelling (driver_calls d)
       (λ k call is.
-      let kind = of_kind (take k (driver_calls d)) (slice_get commands k) call (next_is (slice_get commands k) (λ c there. get_all IsNotLimit commands k c none there)) (driver_follows commands d follows k call is) in
+      let kind = of_kind (take k (driver_calls d)) (slice_get commands k) call (next_is (slice_get commands k) (λ c there. get_all IsNotLimit commands k c none there)) (placed k call is) in
       (kind.0, has_text call.command call.answer kind.1 (calls_name call (has_at (driver_calls d) k call is))))
     where
       next_is : (next : Option Command) → ((c : Command) → next ≡ Some c → IsNotLimit c) → NextIs next
@@ -131,28 +132,28 @@ module _ (d : DriverPart) (named : NoticesNamed d) where
 
 -- ---- a state
 
-records_spelled : (xs : List PeerPart) (ds : List DriverPart) → ((p : ℕ) (d : DriverPart) → slice_get ds p ≡ Some d → All HasSpelling (driver_calls d)) → All (λ (x : PeerCalls). All HasSpelling x.calls) (peer_records xs ds)
+records_spelled : (xs : List PeerPart) (ds : List DriverPart) → ((p : ℕ) (d : DriverPart) → slice_get ds p ≡ Some d → calls_in (slice_get (peer_records xs ds) p) ≡ driver_calls d → All HasSpelling (driver_calls d)) → All (λ (x : PeerCalls). All HasSpelling x.calls) (peer_records xs ds)
 records_spelled [] ds each = All-nil (λ (x : PeerCalls). All HasSpelling x.calls)
 records_spelled (x ∷ xs) [] each = All-nil (λ (y : PeerCalls). All HasSpelling y.calls)
-records_spelled (x ∷ xs) (d ∷ ds) each = All-cons (λ (y : PeerCalls). All HasSpelling y.calls) _ (peer_records xs ds) (each 0 d refl) (records_spelled xs ds (λ p e is. each (suc p) e is))
+records_spelled (x ∷ xs) (d ∷ ds) each = All-cons (λ (y : PeerCalls). All HasSpelling y.calls) _ (peer_records xs ds) (each 0 d refl refl) (records_spelled xs ds (λ p e is same. each (suc p) e is same))
 
 commands_none : (lists : List (List Command)) (p : ℕ) → NoLimits lists → AllByRecursion IsNotLimit (commands_of lists p)
 commands_none [] p none = tt
 commands_none (commands ∷ rest) zero none = none.0
 commands_none (commands ∷ rest) (suc p) none = commands_none rest p none.1
 
--- a reached state whose drivers follow their lists
-pub reached_spelled : (o : Opening) (lists : List (List Command)) (s : State) → IsOpening o → NoLimits lists → Reached o s → AllFollow lists s → EachSpelled (record_of_state s).peers
-reached_spelled o lists s valid none reached follow =
+-- a reached state whose record has calls of the lists alone, each in its place
+pub reached_spelled : (o : Opening) (lists : List (List Command)) (s : State) → IsOpening o → NoLimits lists → Reached o s → ((p : ℕ) → AllInPlace (commands_of lists p) (calls_of (record_of_state s) p)) → EachSpelled (record_of_state s).peers
+reached_spelled o lists s valid none reached placed =
     let sound = reached_sound o s valid reached in
     records_spelled s.peers s.drivers
-    (λ p d is_driver. calls_spelled d (sound.receipts.named p d is_driver) (commands_of lists p) (commands_none lists p none) (follow p d is_driver))
+    (λ p d is_driver same. calls_spelled d (sound.receipts.named p d is_driver) (commands_of lists p) (commands_none lists p none) (subst (AllInPlace (commands_of lists p)) same (placed p)))
 
 module _ (o : Opening) (lists : List (List Command)) (turns : List ℕ) (valid : IsOpening o) (none : NoLimits lists) where
   came_to : (m : Shortage) (count : ℕ) (end : Playing) → moves o lists m count (start_of o turns) ≡ end → EachSpelled (record_of_state end.state).peers
   came_to m count end is =
       let k = subst (Plays o lists) is (plays o lists m (λ s reached. reached_sound o s valid reached) turns count) in
-      reached_spelled o lists end.state valid none k.follow.reached k.follow.all
+      reached_spelled o lists end.state valid none k.follow.reached (λ p. recorded_in_place lists end.state p k.follow.all)
 
   pub played_spelled : (r : Record) → IsPlay o lists turns r → EachSpelled r.peers
   played_spelled r play = subst (λ z. EachSpelled z.peers) (sym play.record_is) (came_to (shortage_of r) play.comes.count (record { state = play.state; stage = Finished }) play.comes.is_at)

@@ -4,14 +4,16 @@ ghost use Rattle.b1_model.specs.declared.commands.Command.{Command};
 ghost use Rattle.b1_model.specs.declared.records.Record.{Record};
 ghost use Rattle.b1_model.specs.Opening.{IsOpening};
 ghost use Rattle.b1_model.specs.MachineParts.{State};
+ghost use Rattle.b1_model.specs.Names.{calls_of};
+ghost use Rattle.b1_model.specs.Script.{commands_of};
 ghost use Rattle.b1_model.specs.MachineStep.{Reached, record_of_state};
-ghost use Rattle.b1_play_commands.specs.Following.{AllFollow};
+ghost use Rattle.b1_play_commands.specs.Following.{AllInPlace};
 ghost use Rattle.b1_schedule.specs.Schedule.{IsPlay, IsStall};
 ghost use Rattle.b1_report.specs.Report.{EachSpelled};
 ghost use Rattle.b1_play_report.specs.Limits.{NoLimits};
 
 /// What is played of a script without a PEER_RESET without flush can be reported, and so can what stalls, and every
-/// reached state whose drivers follow the script: no call is such a reset or an AWAIT, the answer of a flush is that of a
+/// reached state whose calls are the script's commands in their places: no call is such a reset or an AWAIT, the answer of a flush is that of a
 /// PEER_RESET or a PEER_DISCONNECT, and each destroy notice has an even number.
 pub fn what_is_played_is_spelled()
     ensures played { (o : Opening) (lists : List (List Command)) (turns : List ℕ) (r : Record)
@@ -20,6 +22,7 @@ pub fn what_is_played_is_spelled()
         (waiting : List ℕ) (r : Record) → IsOpening o → NoLimits lists
         → IsStall o lists turns waiting r → EachSpelled r.peers }
     ensures reached { (o : Opening) (lists : List (List Command)) (s : State) → IsOpening o
-        → NoLimits lists → Reached o s → AllFollow lists s
+        → NoLimits lists → Reached o s
+        → ((p : ℕ) → AllInPlace (commands_of lists p) (calls_of (record_of_state s) p))
         → EachSpelled (record_of_state s).peers }
 {}

@@ -25,7 +25,8 @@ pub struct Start<Q: QueueKind, P: PoolKind> {
 pub struct BusRule;
 
 impl<Q: QueueKind, P: PoolKind> TableRule<PeerState<Q, P>, View, Start<Q, P>> for BusRule {
-    ghost holds = { λ key. Kept key.opening.value (state_of key.peers.value.items key.drivers.value.items) };
+    ghost holds = { λ key. Kept key.opening.value
+        (state_of key.peers.value.items key.drivers.value.items) };
 
     ghost first = { λ key. whole key.opening.value (held_by key.drivers.value.items) };
 }

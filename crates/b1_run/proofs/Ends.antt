@@ -1,10 +1,10 @@
 -- The state of a closed bus whose drivers follow a script.
-use Rattle.std.proofs.Common.{◌≡◌, ◌≢◌, ℕ, zero, suc, ◌+◌, ◌==◌, ◌≤◌, ◌<◌, Bool, true, false, not, ◌&&◌, cond, List, [], ◌∷◌, ◌++◌, length, map, get_or, slice_get, Option, Some, None, is_none, refl, sym, ap, ◌∙◌, subst, inl, inr, arith}
-use Rattle.std.specs.Prelude.{All}
-use Rattle.std.specs.List.{list_all, filter, range_with_len, AllByRecursion}
-use Rattle.std.proofs.lemmas.Bool.{cases_lt, eqb-true}
+use Rattle.std.proofs.Common.{◌≡◌, ℕ, zero, suc, ◌+◌, ◌==◌, true, ◌&&◌, List, [], ◌∷◌, length, map, slice_get, Option, Some, None, is_none, refl, sym, ap, ◌∙◌, subst, arith}
+use Rattle.std.specs.Prelude.{All, IfOk, Result, Ok, Err}
+use Rattle.std.specs.List.{list_all}
+use Rattle.std.proofs.lemmas.Bool.{eqb-true}
 use Rattle.std.proofs.lemmas.List.{length-map}
-use Rattle.std.proofs.lemmas.Option.{slice_get_within, slice_get_read, get_or_from_slice_get, slice_get_past}
+use Rattle.std.proofs.lemmas.Option.{slice_get_within, get_or_from_slice_get, slice_get_past}
 use Rattle.b1_model.specs.declared.naming.Opening.{Opening}
 use Rattle.b1_model.specs.declared.naming.PeerSpec.{PeerSpec}
 use Rattle.b1_model.specs.declared.commands.Command.{Command}
@@ -12,20 +12,25 @@ use Rattle.b1_model.specs.declared.records.Record.{Record}
 use Rattle.b1_model.specs.Opening.{IsOpening}
 use Rattle.b1_model.specs.Script.{commands_of}
 use Rattle.b1_model.specs.MachineParts.{PeerPart, DriverPart, State}
-use Rattle.b1_model.specs.MachineOrder.{Drained, DrainedOf, Stuck, next_command, no_command_open, is_idle}
-use Rattle.b1_model.specs.MachineStep.{idle_driver, no_peer, record_of_state, Reached}
-use Rattle.b1_inv.specs.Words.{IsDriver}
+use Rattle.b1_model.specs.MachineOrder.{Drained, next_command, no_command_open, is_idle}
+use Rattle.b1_model.specs.Legal.{Legal, Whole}
+use Rattle.b1_model.specs.Names.{calls_of}
+use Rattle.b1_model.specs.Script as follows
+use Rattle.b1_model.specs.MachineStep.{idle_driver, idle_drivers, no_peer, record_of_state, Reached}
+use Rattle.b1_inv.specs.Sound.{IsSound}
 use Rattle.b1_peer.specs.Seen.{PeerSeen}
 use Rattle.b1_driver.specs.Parts.{Driver}
 use Rattle.b1_play_commands.specs.Following.{AllInPlace, Follows, AllEnd}
 use Rattle.b1_play_commands.specs.Following as following
+use Rattle.b1_play_commands.proofs.Recorded.{script_kept, recorded_in_place}
+use Rattle.b1_script.specs.declared.script.Script.{Script}
 use Rattle.b1_rule.specs.Rule.{state_of}
 use Rattle.b1_rule.proofs.Whole.{at_map, map_at}
-use Rattle.b1_locks.specs.Faces.{BusFace, DriverFace, IsOf, members, crew, crew_from, part_at}
+use Rattle.b1_locks.specs.Faces.{BusFace, ClosedFace, DriverFace, IsOf, members, crew, crew_from, part_at}
 use Rattle.b1_bus.specs.Seated.{driver_at}
-use Rattle.b1_bus.proofs.Crews.{is_crew, IsCrew, at}
-use Rattle.b1_run.specs.Standing.{QuietAt, EmptyAt, WaitBelow}
-use Rattle.b1_run.specs.Workers.{HasEnded, AllFollow, HaveEnded, IsAt, AreAt, AllEnded}
+use Rattle.b1_bus.proofs.Crews.{is_crew, at}
+use Rattle.b1_run.specs.Workers.{HasEnded, AllFollow, HaveEnded, AreAt, AllEnded}
+use Rattle.b1_run.specs.Runs.{IsDone, IsStalled, IsDrainedAt, IsStuckAt}
 use Rattle.b1_run.specs.declared.worker.Worker.{Worker}
 
 -- ---- parts
@@ -65,9 +70,9 @@ crew_from_each b (f ∷ fs) (spec ∷ specs) from long each =
 pub crew_at : (b : BusFace) (lists : List (List Command)) (ws : List Worker) → AreAt b lists ws → members (map (λ w. w.driver) ws) ≡ crew b
 crew_at b lists ws at_all = crew_from_each b (map (λ w. w.driver) ws) b.opening.peers 0 (length-map ws (λ (w : Worker). w.driver) ∙ at_all.as_many)
     (λ i f is.
-      let (w, at_worker, same) = map_at (λ (w : Worker). w.driver) ws i f is in
-      let k = at_all.each i w at_worker in
-      subst (λ g. IsOf g b × (g.own.part.me ≡ 0 + i)) same (k.on, omega (arith, k.number)))
+    let (w, at_worker, same) = map_at (λ (w : Worker). w.driver) ws i f is in
+    let k = at_all.each i w at_worker in
+    subst (λ g. IsOf g b × (g.own.part.me ≡ 0 + i)) same (k.on, omega (arith, k.number)))
 
 -- their own
 owns : (ws : List Worker) → map (λ f. f.own) (map (λ w. w.driver) ws) ≡ map (λ w. w.driver.own) ws
@@ -98,14 +103,14 @@ are_at b lists ws fs ds drivers all owned follow =
     record {
       as_many = sym (length-map ws (λ (w : Worker). w.driver)) ∙ ap length drivers ∙ k.as_many;
       each = λ p w is.
-        let here : slice_get fs p ≡ Some w.driver = ap (λ l. slice_get l p) (sym drivers) ∙ at_map (λ (v : Worker). v.driver) ws p w is in
-        let on = at _ fs k.each_of p w.driver here in
-        let number = k.numbered p w.driver here in
-        record {
-          on = record { table = on.table_is; opening = on.opening_is };
-          number = omega (arith, number);
-          follows = follow p w.driver.own (ap (λ l. slice_get l p) (sym owned) ∙ at_map (λ (f : DriverFace). f.own) fs p w.driver here);
-        };
+          let here : slice_get fs p ≡ Some w.driver = ap (λ l. slice_get l p) (sym drivers) ∙ at_map (λ (v : Worker). v.driver) ws p w is in
+          let on = at _ fs k.each_of p w.driver here in
+          let number = k.numbered p w.driver here in
+          record {
+            on = record { table = on.table_is; opening = on.opening_is };
+            number = omega (arith, number);
+            follows = follow p w.driver.own (ap (λ l. slice_get l p) (sym owned) ∙ at_map (λ (f : DriverFace). f.own) fs p w.driver here);
+          };
     }
 
 pub owned_by : (ws : List Worker) (fs : List DriverFace) (ds : List Driver) → map (λ w. w.driver) ws ≡ fs → map (λ f. f.own) fs ≡ ds → map (λ w. w.driver.own) ws ≡ ds
@@ -138,3 +143,58 @@ module _ (lists : List (List Command)) (xs : List PeerSeen) (ds : List Driver) (
   all_end ended p d is =
       let (e, at_driver, same) = map_at (λ (e : Driver). e.part) ds p d is in
       subst (λ (f : DriverPart). next_command lists p f ≡ None) same (slice_get_past (commands_of lists p) (length e.part.calls) (ended p e at_driver))
+
+-- ---- by whether there was memory
+
+pub both_ok : {T E : Type 0} (P Q S : T → Type 0) (r : Result T E) → ((x : T) → P x → Q x → S x) → IfOk r P → IfOk r Q → IfOk r S
+both_ok P Q S (Ok x) h p q = h x p q
+both_ok P Q S (Err e) h p q = p
+
+-- ---- a bus that is opened
+
+idle_calls : (specs : List PeerSpec) (from p : ℕ) (d : DriverPart) → slice_get (idle_drivers from specs) p ≡ Some d → d.calls ≡ []
+idle_calls [] from p d is = absurd (cc is)
+idle_calls (spec ∷ specs) from zero d is = ap (λ e. e.calls) (let same : d ≡ idle_driver from = cc is in same)
+idle_calls (spec ∷ specs) from (suc p) d is = idle_calls specs (from + 1) p d is
+
+pub none_called : (lists : List (List Command)) (specs : List PeerSpec) (fs : List DriverFace) → map (λ f. f.own.part) fs ≡ idle_drivers 0 specs → AllFollow lists (map (λ f. f.own) fs)
+none_called lists specs fs parts p d is =
+    let (f, at_face, own) = map_at (λ (f : DriverFace). f.own) fs p d is in
+    let none : f.own.part.calls ≡ [] = idle_calls specs 0 p f.own.part (ap (λ l. slice_get l p) (sym parts) ∙ at_map (λ (g : DriverFace). g.own.part) fs p f at_face) in
+    let calls : d.part.calls ≡ [] = ap (λ (e : Driver). e.part.calls) (sym own) ∙ none in
+    subst (AllInPlace (commands_of lists p)) (sym calls) (λ k call here. absurd (cc here))
+
+-- ---- what a run comes to
+
+module _ (s : Script) (c : ClosedFace) (r : Record) (reached : Reached c.opening (state_of c.peers c.drivers)) (closed : All (λ d. d.part.doing ≡ None) c.drivers) (record_is : r ≡ record_of_state (state_of c.peers c.drivers)) (legal : Legal c.opening r) where
+  pub done_is : IsOpening s.opening → IsDrainedAt s c
+      → ((o : Opening) (t : State) → IsOpening o → Reached o t → IsSound o t) → ((o : Opening) (t : State) → IsOpening o → Reached o t → Drained t → Whole o (record_of_state t)) → IsDone s r
+  done_is opening at_end sound whole =
+      let t : State = state_of c.peers c.drivers in
+      let there : Reached s.opening t = subst (λ (o : Opening). Reached o t) at_end.closed.opening reached in
+      let drained : Drained t = record { none_open = is_closed s.commands c.peers c.drivers closed; empty = λ p d x driver peer not_shut. at_end.empty p d x driver peer not_shut } in
+      let end = all_end s.commands c.peers c.drivers closed at_end.ended in
+      record {
+        state = t;
+        reached = there;
+        drained = record { drained = drained; ended = λ p d is. end p d is };
+        record_is = record_is;
+        legal = subst (λ (o : Opening). Legal o r) at_end.closed.opening legal;
+        whole = subst (Whole s.opening) (sym record_is) (whole s.opening t opening there drained);
+        script = subst (follows.Script s.opening s.commands) (sym record_is)
+            (script_kept s.opening s.commands t (sound s.opening t opening there).numbered (all_follow s.commands c.peers c.drivers closed at_end.closed.follows) end);
+      }
+
+  pub stalled_is : (found waiting : List ℕ) → IsStuckAt s c found → waiting ≡ found → IsStalled s waiting r
+  stalled_is found waiting at_stall same =
+      let t : State = state_of c.peers c.drivers in
+      record {
+        state = t;
+        reached = subst (λ (o : Opening). Reached o t) at_stall.closed.opening reached;
+        stuck = at_stall.stuck;
+        waiting_is = same ∙ at_stall.waiting_is;
+        record_is = record_is;
+        legal = subst (λ (o : Opening). Legal o r) at_stall.closed.opening legal;
+        in_place = λ p. subst (λ (z : Record). AllInPlace (commands_of s.commands p) (calls_of z p)) (sym record_is)
+            (recorded_in_place s.commands t p (all_follow s.commands c.peers c.drivers closed at_stall.closed.follows));
+      }

@@ -1,7 +1,7 @@
 -- A driver that does the next command of a list, or receives behind the last one, follows the list.
-use Rattle.std.proofs.Common.{◌≡◌, ◌⊎◌, ℕ, zero, suc, ◌+◌, ◌≤◌, ◌<◌, ◌||◌, Bool, true, false, List, [], ◌∷◌, ◌++◌, length, take, slice_get, Option, Some, None, refl, sym, ap, ◌∙◌, subst, inl, inr, arith}
+use Rattle.std.proofs.Common.{◌≡◌, ◌⊎◌, ℕ, zero, suc, ◌+◌, ◌≤◌, ◌<◌, ◌||◌, true, false, List, [], ◌∷◌, ◌++◌, length, take, slice_get, Option, Some, None, refl, sym, ap, ◌∙◌, subst, inl, inr, arith}
 use Rattle.std.proofs.lemmas.Bool.{cases_lt}
-use Rattle.std.proofs.lemmas.List.{length-append, take-append-le, take_all}
+use Rattle.std.proofs.lemmas.List.{length-append, take_all}
 use Rattle.b1_model.specs.declared.commands.Command.{Command}
 use Rattle.b1_model.specs.declared.commands.Command.TheVariants as cmd
 use Rattle.b1_model.specs.declared.answers.Answer.{Answer}
@@ -13,8 +13,8 @@ use Rattle.b1_model.specs.Script.{resolved, fits, ends_await, is_receipt, IsCall
 use Rattle.b1_model.specs.MachineParts.{DriverPart}
 use Rattle.b1_model.specs.MachineTook.{as_call, is_waiting}
 use Rattle.b1_play_commands.specs.Following.{AllInPlace}
-use Rattle.b1_commands.specs.Done.{Called, Waited, HasEnded, RefusesRight, is_shutdown, leaves}
-use Rattle.b1_locks.specs.Faces.{BusFace, DriverFace, Member, IsOf, member}
+use Rattle.b1_commands.specs.Done.{Called, HasEnded, RefusesRight, is_shutdown, leaves}
+use Rattle.b1_locks.specs.Faces.{BusFace, DriverFace, Member, member}
 use Rattle.b1_run.specs.Workers.{IsAt, HasRoom}
 
 -- ---- one call more
@@ -51,9 +51,9 @@ module _ (commands : List Command) (calls : List Call) (follows : AllInPlace com
         let same : Some call ≡ Some other = sym (get_last calls call) ∙ ap (slice_get (calls ++ call ∷ [])) (sym last) ∙ is in
         let whole : take k (calls ++ call ∷ []) ≡ calls = take_before calls call k (omega arith) ∙ take_all k calls (omega arith) in
         subst (λ l. IsInPlace l (slice_get commands k) (Some other)) (sym whole)
-          (subst (λ i. IsInPlace calls (slice_get commands i) (Some other)) (sym last)
-            (subst (λ o. IsInPlace calls (slice_get commands (length calls)) o) same here))
-    ]
+        (subst (λ i. IsInPlace calls (slice_get commands i) (Some other)) (sym last)
+        (subst (λ o. IsInPlace calls (slice_get commands (length calls)) o) same here))
+  ]
 
 -- ---- what ends an AWAIT
 
@@ -108,14 +108,14 @@ module _ (commands : List Command) (d e : DriverPart) (follows : AllInPlace comm
   pub next_follows : (c : Command) → slice_get commands (length d.calls) ≡ Some c → HasEnded d (resolved c d.calls) e → AllInPlace commands e.calls
   next_follows c is (inl (got, k)) =
       subst (AllInPlace commands) (sym k.calls) (in_place_more commands d.calls follows (record { command = as_call (resolved c d.calls); answer = got })
-        (subst (λ o. IsInPlace d.calls o (Some (record { command = as_call (resolved c d.calls); answer = got }))) (sym is) (called c d.calls d e got k)))
+      (subst (λ o. IsInPlace d.calls o (Some (record { command = as_call (resolved c d.calls); answer = got }))) (sym is) (called c d.calls d e got k)))
   next_follows c is (inr (await, front, removed, w)) = subst (AllInPlace commands) (sym w.calls) follows
 
   -- after an attempt behind the last command, of a driver that hasn't disconnected
   pub drain_follows : slice_get commands (length d.calls) ≡ None → d.shut ≡ false → HasEnded d cmd.Await e → AllInPlace commands e.calls
   drain_follows is there (inl (got, k)) =
       subst (AllInPlace commands) (sym k.calls) (in_place_more commands d.calls follows (record { command = cmd.Recv; answer = got })
-        (subst (λ o. IsInPlace d.calls o (Some (record { command = cmd.Recv; answer = got }))) (sym is) (refl, receipt_true got (k.shutdown ∙ there) (await_ends got k.kind.0 k.taken k.refused))))
+      (subst (λ o. IsInPlace d.calls o (Some (record { command = cmd.Recv; answer = got }))) (sym is) (refl, receipt_true got (k.shutdown ∙ there) (await_ends got k.kind.0 k.taken k.refused))))
   drain_follows is there (inr (await, front, removed, w)) = subst (AllInPlace commands) (sym w.calls) follows
 
 never_leaves : (got : Answer) → leaves cmd.Await got ≡ false

@@ -186,6 +186,7 @@ fn drain<R: Threads + Wait + Sync, G: Gate + Sync>(
 ) -> Result<Record, AllocError>
     requires site { IsSite script.now.opening script.now.commands site }
     requires ended { AllEnded script.now.commands site.workers.items }
+    requires opening { IsOpening script.now.opening }
     ensures { IfOk result (λ r. IsDone script.now r) }
 {
     let mut site = site;
@@ -200,7 +201,8 @@ fn drain<R: Threads + Wait + Sync, G: Gate + Sync>(
 
 /// The record of a bus that is drained.
 fn done(_script: &Script, closed: Closed) -> Record
-    requires { IsDrainedAt _script.now closed }
+    requires opening { IsOpening _script.now.opening }
+    requires drained { IsDrainedAt _script.now closed }
     ensures { IsDone _script.now result }
 {
     every_reached_state_is_sound();

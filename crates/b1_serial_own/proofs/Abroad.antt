@@ -1,32 +1,32 @@
 -- Who refers to a node on the serial bus, and the counts of its owner.
-use Rattle.std.proofs.Common.{◌≡◌, ◌≢◌, refl, sym, ap, ◌∙◌, subst, inl, inr, ℕ, zero, suc, ◌+◌, ◌<◌, ◌≤◌, ◌==◌, Bool, true, false, cond, ◌||◌, ◌&&◌, not, nat_lt, List, [], ◌∷◌, length, get_or, map, sum_by, Option, Some, None, is_some, arith}
+use Rattle.std.proofs.Common.{◌≡◌, refl, sym, ap, ◌∙◌, ℕ, zero, suc, ◌+◌, ◌<◌, ◌==◌, Bool, true, false, cond, ◌||◌, ◌&&◌, not, nat_lt, List, [], ◌∷◌, length, get_or, Option, Some, None, is_some, arith}
 use Rattle.std.specs.Prelude.{slice_get}
 use Rattle.std.specs.List.{list_any, list_all}
-use Rattle.std.proofs.lemmas.Bool.{ltb-true, ltb-false, lt-ltb, le-ltb, eqb-true, eqb-false, eq-eqb, ne_eqb, and_parts, false_from_ne_true}
+use Rattle.std.proofs.lemmas.Bool.{ltb-true, ltb-false, lt-ltb, eqb-true, eq-eqb, and_parts, false_from_ne_true}
 use Rattle.std.proofs.lemmas.List.Sums.{sum_by-cons}
 use Rattle.b1_model.specs.declared.naming.Key.{Key}
 use Rattle.b1_model.specs.declared.naming.NodeRef.{NodeRef}
 use Rattle.b1_model.specs.declared.naming.Opening.{Opening}
 use Rattle.b1_model.specs.declared.entries.Entry.{Entry}
-use Rattle.b1_model.specs.MachineParts.{PeerPart, DriverPart, NodePart, HandleRecord, State, same_ref, record_or_none, record_of, node_at, no_node}
+use Rattle.b1_model.specs.MachineParts.{PeerPart, DriverPart, HandleRecord, State, same_ref, record_of, node_at, no_node}
 use Rattle.b1_model.specs.MachineTables.{count_of, is_unheld}
 use Rattle.b1_step.specs.Rights.{Has}
 use Rattle.b1_step.specs.Ordered.{Rising}
 use Rattle.b1_step.proofs.Lists.{has_within}
 use Rattle.b1_step.proofs.Orders.{same_ref_is, same_ref_itself}
-use Rattle.b1_inv.specs.Words.{IsPeer, IsDriver, IsMade}
+use Rattle.b1_inv.specs.Words.{IsPeer}
 use Rattle.b1_inv.specs.Numbers.{AreNumbered}
 use Rattle.b1_inv.specs.References.{count_in, times_in}
 use Rattle.b1_inv.specs.Sound.{IsSound}
 use Rattle.b1_inv_refs.proofs.Views.{Handles, or_none, times_cons}
 use Rattle.b1_inv_refs.proofs.GivenUp.{found_has}
-use Rattle.b1_serial_bus.specs.Parts.{Part, Bus}
+use Rattle.b1_serial_bus.specs.Parts.{Part}
 use Rattle.b1_serial_bus.specs.Named.{line_of}
 use Rattle.b1_serial_bus.specs.References.{boxed_references, has_slot, refers, is_abroad}
-use Rattle.b1_serial_rest.specs.Standing.{part_of, parts_of, bus_of, lines_of}
+use Rattle.b1_serial_rest.specs.Standing.{part_of, bus_of, lines_of}
 use Rattle.b1_serial_rest.specs.Rest.{held_times, boxed_times, IsQuiet}
 use Rattle.b1_serial_rest.proofs.Records.{lines_have, lines_held}
-use Rattle.b1_serial_rest.proofs.Own.{Parts, parts_at}
+use Rattle.b1_serial_rest.proofs.Own.{parts_at}
 use Rattle.b1_serial_whole.proofs.Quiet.{element_there}
 use Rattle.b1_serial_whole.proofs.Counted.{is_counted}
 use Rattle.b1_serial_own.proofs.Shows.{part_there}
@@ -95,7 +95,7 @@ module _ (x : NodeRef) where
       ∙ sym (ap (nat_lt 0) (sum_by-cons (λ g. times_in x (boxed_references g)) f rest))
 
   -- a node has a line where it is held
-  has_line : (given : ℕ) (hs : Handles) → Rising hs → AreNumbered given hs → is_some (line_of x (lines_of hs)) ≡ nat_lt 0 (held_times x (lines_of hs))
+  pub has_line : (given : ℕ) (hs : Handles) → Rising hs → AreNumbered given hs → is_some (line_of x (lines_of hs)) ≡ nat_lt 0 (held_times x (lines_of hs))
   has_line given hs up numbered = lines_have x hs up ∙ by (record_of x hs) refl ∙ sym (ap (nat_lt 0) (lines_held x hs up numbered.unheld))
     where
       by_number : (h : HandleRecord) → Has hs h → (r : Option ℕ) → h.number ≡ r → is_some r ≡ nat_lt 0 h.held

@@ -1,9 +1,8 @@
 -- A drop at a node's owner, as the serial bus shows it.
-use Rattle.std.proofs.Common.{◌≡◌, ◌≢◌, refl, sym, ap, ◌∙◌, subst, inl, inr, ℕ, zero, suc, ◌+◌, ◌-◌, ◌<◌, ◌≤◌, ◌==◌, max, Bool, true, false, cond, ◌||◌, ◌&&◌, not, List, [], ◌∷◌, length, get_or, map, filter, Option, Some, None, is_none, is_some, arith}
+use Rattle.std.proofs.Common.{◌≡◌, ◌≢◌, refl, sym, ap, ◌∙◌, subst, inl, inr, ℕ, zero, suc, ◌+◌, ◌<◌, ◌≤◌, ◌==◌, max, Bool, true, false, cond, ◌||◌, ◌&&◌, not, List, [], ◌∷◌, length, get_or, map, Some, None, is_none, is_some, arith}
 use Rattle.std.specs.Prelude.{slice_get}
 use Rattle.std.specs.List.{list_any}
 use Rattle.std.proofs.lemmas.Bool.{eq-eqb, eqb-true, false_from_ne_true}
-use Rattle.std.proofs.lemmas.List.{get_or-set_same}
 use Rattle.b1_model.specs.declared.naming.Key.{Key}
 use Rattle.b1_model.specs.declared.naming.NodeRef.{NodeRef}
 use Rattle.b1_model.specs.declared.naming.Opening.{Opening}
@@ -14,11 +13,11 @@ use Rattle.b1_model.specs.declared.entries.Entry.TheVariants.{Message, OwnNotice
 use Rattle.b1_model.specs.declared.events.Doing.{Doing}
 use Rattle.b1_model.specs.declared.events.OwedDrop.{OwedDrop}
 use Rattle.b1_model.specs.declared.events.Action.TheVariants as act
-use Rattle.b1_model.specs.MachineParts.{PeerPart, DriverPart, NodePart, State, same_ref, is_release_notice, is_live, is_dying, node_at, no_node, no_origin}
-use Rattle.b1_model.specs.MachineTables.{put, without, with_node, uncounted, count_of, is_unheld}
+use Rattle.b1_model.specs.MachineParts.{PeerPart, DriverPart, NodePart, State, is_release_notice, is_live, is_dying, node_at, no_node, no_origin}
+use Rattle.b1_model.specs.MachineTables.{put, without, uncounted, count_of}
 use Rattle.b1_model.specs.MachineReceive.{dropped_refs, with_release_notice, is_released, dropped}
 use Rattle.b1_model.specs.MachineCounts.{driver_amount, owed_amount}
-use Rattle.b1_model.specs.MachineDriver.{next_action, peer_of}
+use Rattle.b1_model.specs.MachineDriver.{next_action}
 use Rattle.b1_model.specs.MachineStep.{Step}
 use Rattle.b1_step.specs.Rights.{Has}
 use Rattle.b1_step.proofs.Lists.{map_set}
@@ -83,7 +82,7 @@ abroad_at x g (suc q) (y ∷ ys) same = ap (λ b. refers x y || b) (abroad_at x 
 
 -- ---- the owner's part
 
-stamp_at : (nodes : List NodePart) (serial : ℕ) → serial < length nodes → elim (slice_get (map own_of nodes) serial) [ None ↦ None | Some n ↦ n.destroyed ] ≡ stamp_of (get_or nodes serial no_node).state
+pub stamp_at : (nodes : List NodePart) (serial : ℕ) → serial < length nodes → elim (slice_get (map own_of nodes) serial) [ None ↦ None | Some n ↦ n.destroyed ] ≡ stamp_of (get_or nodes serial no_node).state
 stamp_at [] serial less = absurd (omega (arith, less))
 stamp_at (n ∷ rest) zero less = refl
 stamp_at (n ∷ rest) (suc serial) less = stamp_at rest serial (omega (arith, less))
@@ -160,8 +159,8 @@ module _ {o : Opening} {s : State} {p : ℕ} {t : State} (sound : IsSound o s) (
   counted =
       let some = (sound.references.owed p step.driver one step.is_driver there).some in
       let owes : owed_amount one.node one.holder step.driver.owed ≡ one.amount + owed_amount one.node one.holder rest =
-          ap (owed_amount one.node one.holder) owed ∙ owed_cons one.node one.holder one rest
-          ∙ ap (λ b. cond b one.amount 0 + owed_amount one.node one.holder rest) (ap (λ b. b && (one.holder == one.holder)) (same_ref_itself one.node) ∙ eq-eqb one.holder one.holder refl) in
+      ap (owed_amount one.node one.holder) owed ∙ owed_cons one.node one.holder one rest
+      ∙ ap (λ b. cond b one.amount 0 + owed_amount one.node one.holder rest) (ap (λ b. b && (one.holder == one.holder)) (same_ref_itself one.node) ∙ eq-eqb one.holder one.holder refl) in
       let within = member_le (driver_amount one.node one.holder) s.drivers p step.driver step.is_driver in
       let same = sound.references.counts one.node one.holder in
       omega (arith, some, owes, within, same)
@@ -170,7 +169,7 @@ module _ {o : Opening} {s : State} {p : ℕ} {t : State} (sound : IsSound o s) (
   count_is = ap (λ r. elim r [ None ↦ 0 | Some v ↦ count_of (node_at v one.node.serial) one.holder ]) owner_there
 
   -- so that no release notice of the node is queued
-  none_queued : (f : Key × Entry) → Has step.peer.queue f → is_release_notice one.node.serial f ≡ false
+  pub none_queued : (f : Key × Entry) → Has step.peer.queue f → is_release_notice one.node.serial f ≡ false
   none_queued f queued = false_from_ne_true (is_release_notice one.node.serial f) never
     where
       never : is_release_notice one.node.serial f ≡ true → ⊥

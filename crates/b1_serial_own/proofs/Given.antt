@@ -1,15 +1,14 @@
 -- A reference that is given up leaves the boxes right.
-use Rattle.std.proofs.Common.{◌≡◌, ◌⊎◌, refl, sym, ap, ◌∙◌, inl, inr, ℕ, max, Bool, true, false, ◌&&◌, ◌||◌, not, is_none}
-use Rattle.std.specs.List.{list_any}
+use Rattle.std.proofs.Common.{◌≡◌, ◌⊎◌, refl, ap, ◌∙◌, inl, inr, ℕ, max, Bool, true, false, ◌&&◌, not, is_none}
 use Rattle.b1_model.specs.declared.naming.Key.{Key}
 use Rattle.b1_model.specs.declared.naming.NodeRef.{NodeRef}
 use Rattle.b1_model.specs.declared.entries.Entry.{Entry}
 use Rattle.b1_model.specs.declared.entries.Entry.TheVariants.{ReleaseNotice}
 use Rattle.b1_model.specs.MachineParts.{is_data, is_release_notice, no_origin, key_before}
-use Rattle.b1_model.specs.MachineTables.{put, without}
+use Rattle.b1_model.specs.MachineTables.{without}
 use Rattle.b1_step.specs.Rights.{Has}
 use Rattle.b1_step.proofs.Queues.{any_put, put_has, without_has}
-use Rattle.b1_serial_bus.specs.Parts.{Part, Bus, at_peer, key_of}
+use Rattle.b1_serial_bus.specs.Parts.{Part, Bus, key_of}
 use Rattle.b1_serial_bus.specs.Lives.{destroyed_at}
 use Rattle.b1_serial_bus.specs.References.{is_abroad}
 use Rattle.b1_serial_bus.specs.GivenUp.{with_release_notice, noticed, told, given_up}

@@ -1,7 +1,7 @@
 -- A reference that is given up lowers the line of its record.
-use Rattle.std.proofs.Common.{◌≡◌, ◌≢◌, refl, sym, ap, ◌∙◌, subst, inl, inr, ℕ, ◌+◌, ◌-◌, ◌<◌, ◌≤◌, ◌==◌, Bool, true, false, cond, ◌||◌, nat_lt, List, [], ◌∷◌, Option, Some, None, arith}
+use Rattle.std.proofs.Common.{◌≡◌, ◌≢◌, refl, sym, ap, ◌∙◌, subst, inl, inr, ℕ, ◌-◌, ◌<◌, ◌≤◌, ◌==◌, Bool, true, false, cond, ◌||◌, nat_lt, [], ◌∷◌, Option, Some, None, arith}
 use Rattle.std.specs.Prelude.{find}
-use Rattle.std.proofs.lemmas.Bool.{eqb-true, eqb-false, ne_eqb, eq-eqb, lt-ltb, le-ltb, false_from_ne_true}
+use Rattle.std.proofs.lemmas.Bool.{eqb-true, eqb-false, lt-ltb}
 use Rattle.std.proofs.lemmas.Option.{same_Some}
 use Rattle.b1_model.specs.declared.naming.NodeRef.{NodeRef}
 use Rattle.b1_model.specs.MachineParts.{HandleRecord, same_ref}
@@ -19,7 +19,7 @@ use Rattle.b1_serial_rest.specs.Standing.{line_under, put_line, with_line, lines
 use Rattle.b1_serial_own.proofs.Sorted.{NoneNumbered, put_none_numbered, lines_in_order, put_lowered, put_own_lowered}
 
 -- records without a number have no line with it
-none_numbered : (n : ℕ) (hs : Handles) → ((h : HandleRecord) → Has hs h → h.number ≢ Some n) → NoneNumbered n (lines_of hs)
+pub none_numbered : (n : ℕ) (hs : Handles) → ((h : HandleRecord) → Has hs h → h.number ≢ Some n) → NoneNumbered n (lines_of hs)
 none_numbered n [] none = tt
 none_numbered n (h ∷ rest) none = by (none_numbered n rest (λ g there. none g (inr there))) h.number refl
   where

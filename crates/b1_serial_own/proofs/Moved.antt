@@ -1,5 +1,5 @@
 -- What a step makes of the two parts, by the command and the phase that it goes on from.
-use Rattle.std.proofs.Common.{◌≡◌, refl, sym, ap, ◌∙◌, subst, inl, inr, ℕ, Bool, Option, Some, None}
+use Rattle.std.proofs.Common.{◌≡◌, sym, ap, ◌∙◌, subst, inl, inr, ℕ, Bool, Option, Some, None}
 use Rattle.std.proofs.lemmas.Option.{same_Some}
 use Rattle.b1_model.specs.declared.naming.Opening.{Opening}
 use Rattle.b1_model.specs.declared.commands.Command.{Command}
@@ -12,7 +12,7 @@ use Rattle.b1_model.specs.MachineDriver.{next_action, peer_of, turn}
 use Rattle.b1_model.specs.MachineTook.{with_facts, turned}
 use Rattle.b1_model.specs.MachineEvents.{happens}
 use Rattle.b1_model.specs.MachineStep.{Step}
-use Rattle.b1_inv_tools.proofs.Leaves.{Opened, Did, step_did}
+use Rattle.b1_inv_tools.proofs.Leaves.{Did, step_did}
 
 -- a step that goes on from a phase of an open command
 pub record Moved (o : Opening) (d : DriverPart) (x : PeerPart) (command : Command) (phase : Phase) (at : ℕ) (f : DriverPart) (y : PeerPart) : Type 0 where

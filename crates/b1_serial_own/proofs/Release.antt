@@ -1,5 +1,5 @@
 -- A whole HANDLE_RELEASE leads from rest to rest.
-use Rattle.std.proofs.Common.{◌≡◌, ◌≢◌, refl, sym, ap, ◌∙◌, subst, inl, inr, ℕ, zero, suc, ◌<◌, max, drop, Bool, true, false, cond, ◌&&◌, not, List, [], ◌∷◌, ◌++◌, length, get_or, map, Option, Some, None, Ok, is_none, arith}
+use Rattle.std.proofs.Common.{◌≡◌, ◌≢◌, refl, sym, ap, ◌∙◌, subst, inl, ℕ, zero, suc, ◌<◌, max, drop, Bool, true, false, cond, ◌&&◌, not, List, [], ◌∷◌, ◌++◌, length, map, Some, None, Ok, is_none}
 use Rattle.std.specs.Prelude.{slice_get}
 use Rattle.std.proofs.lemmas.Option.{same_Some}
 use Rattle.b1_model.specs.declared.naming.NodeRef.{NodeRef}
@@ -23,17 +23,16 @@ use Rattle.b1_model.specs.MachineReceive as machine
 use Rattle.b1_model.specs.MachineReceive.{dropped, dropped_refs, is_released}
 use Rattle.b1_model.specs.MachineDriver.{next_action, refused_at}
 use Rattle.b1_model.specs.MachineTook.{with_facts, turned}
-use Rattle.b1_model.specs.MachineDriver.{Turn, Goes, turn}
-use Rattle.b1_model.specs.MachineEvents.{happens}
+use Rattle.b1_model.specs.MachineDriver.{Goes, turn}
 use Rattle.b1_model.specs.MachineStep.{Step, Reached}
 use Rattle.b1_schedule.specs.Shortage.{Shortage}
 use Rattle.b1_step.proofs.Lists.{has_within}
-use Rattle.b1_step.proofs.Locality.{own_driver, other_driver}
+use Rattle.b1_step.proofs.Locality.{own_driver}
 use Rattle.b1_step.specs.Rights.{Has}
 use Rattle.b1_inv.specs.Words.{IsPeer, IsDriver, fixed_stamp, stamp_of_phase}
 use Rattle.b1_inv_record.specs.Right.{IsRight}
 use Rattle.b1_inv.specs.Sound.{IsSound}
-use Rattle.b1_inv_tools.proofs.Leaves.{new_peer, same_peer, step_did}
+use Rattle.b1_inv_tools.proofs.Leaves.{new_peer}
 use Rattle.b1_inv_tools.proofs.Facts.{next_of, next_owed}
 use Rattle.b1_inv_tools.proofs.Grows.{made_stays}
 use Rattle.b1_law.proofs.Reached.{reached_sound}
@@ -154,11 +153,11 @@ module _ (o : Opening) (s : State) (bus : Bus) (p : ℕ) (y : Part) (number : �
   first_shows =
       own_shows begins lower at_is
       (ap (λ v. lower (part_of v begins.driver)) peer_is ∙ ap (λ v. lower (part_of x v)) driver_is
-          ∙ ap (λ ls. record (part_of x d) { lines = ls }) lines_are
-          ∙ sym (ap (λ v. part_of v begins.new_driver) peer_after
-              ∙ ap (part_of lowered_peer) new_driver
-              ∙ ap (λ b. record (part_of lowered_peer d) { shut = b; calls = a.e.calls }) (a.shut ∙ ap (λ z. z.shut) driver_is)
-              ∙ ap (λ cs. record (part_of lowered_peer d) { calls = cs }) (a.calls ∙ ap (λ z. z.calls) driver_is)))
+      ∙ ap (λ ls. record (part_of x d) { lines = ls }) lines_are
+      ∙ sym (ap (λ v. part_of v begins.new_driver) peer_after
+      ∙ ap (part_of lowered_peer) new_driver
+      ∙ ap (λ b. record (part_of lowered_peer d) { shut = b; calls = a.e.calls }) (a.shut ∙ ap (λ z. z.shut) driver_is)
+      ∙ ap (λ cs. record (part_of lowered_peer d) { calls = cs }) (a.calls ∙ ap (λ z. z.calls) driver_is)))
       ∙ ap (at_peer p lower) (sym rest.is_bus)
 
   -- ---- the step that ends it

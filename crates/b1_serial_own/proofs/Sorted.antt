@@ -1,7 +1,6 @@
 -- Lines in the order of their numbers, and that a line comes in and another is lowered in either order.
-use Rattle.std.proofs.Common.{◌≡◌, ◌≢◌, refl, sym, ap, ◌∙◌, ℕ, ◌+◌, ◌-◌, ◌<◌, ◌≤◌, ◌==◌, Bool, true, false, cond, not, nat_lt, List, [], ◌∷◌, Option, Some, None, arith}
-use Rattle.std.proofs.lemmas.Bool.{ltb-true, ltb-false, le-ltb, eqb-true, eqb-false, ne_eqb, eq-eqb}
-use Rattle.b1_step.specs.Rights.{Has}
+use Rattle.std.proofs.Common.{◌≡◌, ◌≢◌, refl, sym, ap, ◌∙◌, ℕ, ◌-◌, ◌≤◌, ◌==◌, Bool, true, false, cond, not, nat_lt, List, [], ◌∷◌, Option, Some, None, arith}
+use Rattle.std.proofs.lemmas.Bool.{ltb-true, ltb-false, le-ltb, ne_eqb, eq-eqb}
 use Rattle.b1_model.specs.MachineParts.{HandleRecord}
 use Rattle.b1_serial_bus.specs.Parts.{HeldLine}
 use Rattle.b1_serial_bus.specs.References.{lowered}

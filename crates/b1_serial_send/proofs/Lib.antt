@@ -25,4 +25,4 @@ mod Pools
 mod Unstaging
 mod Assembled
 mod TakenBack
-mod Runs
+pub mod Runs

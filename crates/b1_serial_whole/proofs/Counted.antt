@@ -1,5 +1,5 @@
 -- In a quiet state the owners' counts are what the lines and the boxed slots have.
-use Rattle.std.proofs.Common.{◌≡◌, refl, sym, ap, ◌∙◌, inl, inr, ℕ, zero, suc, ◌+◌, Bool, true, false, cond, ◌&&◌, List, [], ◌∷◌, map, sum_by, filter_map, zip, Option, Some, None, arith}
+use Rattle.std.proofs.Common.{◌≡◌, refl, sym, ap, ◌∙◌, inl, inr, ℕ, ◌+◌, false, cond, List, [], ◌∷◌, map, sum_by, filter_map, zip, Option, Some, None, arith}
 use Rattle.std.specs.Prelude.{slice_get}
 use Rattle.std.proofs.lemmas.List.Sums.{sum_by-cons}
 use Rattle.b1_model.specs.declared.naming.Key.{Key}
@@ -9,12 +9,11 @@ use Rattle.b1_model.specs.declared.parts.Slot.{Slot}
 use Rattle.b1_model.specs.declared.parts.Slot.TheVariants as slot
 use Rattle.b1_model.specs.declared.entries.Entry.{Entry}
 use Rattle.b1_model.specs.declared.events.Doing.{Doing}
-use Rattle.b1_model.specs.declared.events.OwedDrop.{OwedDrop}
-use Rattle.b1_model.specs.MachineParts.{PeerPart, DriverPart, State, same_ref, is_staged, record_or_none, carried, slots_of}
+use Rattle.b1_model.specs.MachineParts.{PeerPart, DriverPart, State, same_ref, is_staged, carried, slots_of}
 use Rattle.b1_model.specs.MachineReceive.{references, reference_of}
-use Rattle.b1_model.specs.MachineCounts.{amount_in, queue_amount, dead_amount, peer_amount, owed_amount, kept_amount, driver_amount, fresh}
+use Rattle.b1_model.specs.MachineCounts.{amount_in, queue_amount, dead_amount, peer_amount, owed_amount, kept_amount, driver_amount}
 use Rattle.b1_step.specs.Rights.{Has}
-use Rattle.b1_inv.specs.Words.{IsPeer, IsDriver}
+use Rattle.b1_inv.specs.Words.{IsPeer}
 use Rattle.b1_inv.specs.References.{count_in, times_in}
 use Rattle.b1_inv.specs.Sound.{IsSound}
 use Rattle.b1_inv_refs.proofs.Amounts.{refs_cons, queue_cons}
@@ -23,7 +22,7 @@ use Rattle.b1_serial_bus.specs.References.{boxed_references}
 use Rattle.b1_serial_rest.specs.Standing.{part_of, bus_of}
 use Rattle.b1_serial_rest.specs.Rest.{held_times, boxed_times, IsQuiet}
 use Rattle.b1_serial_rest.proofs.Records.{lines_held}
-use Rattle.b1_serial_rest.proofs.Own.{Parts, parts_at}
+use Rattle.b1_serial_rest.proofs.Own.{parts_at}
 use Rattle.b1_serial_whole.proofs.Quiet.{index_of}
 
 module _ (node : NodeRef) where

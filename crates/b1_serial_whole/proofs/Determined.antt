@@ -1,8 +1,7 @@
 -- A reached state in which no command is open is at rest, and stands for the bus that its parts show, where its boxes are right.
-use Rattle.std.proofs.Common.{◌≡◌, ◌≢◌, ◌⊎◌, refl, sym, ap, ◌∙◌, subst, inl, inr, ℕ, zero, suc, Some, None}
+use Rattle.std.proofs.Common.{◌≡◌, ◌≢◌, sym, ap, ◌∙◌, subst, inl, inr, ℕ, zero, suc, Some, None}
 use Rattle.std.specs.Prelude.{slice_get}
 use Rattle.std.proofs.lemmas.Bool.{cases_eq}
-use Rattle.b1_model.specs.declared.naming.NodeRef.{NodeRef}
 use Rattle.b1_model.specs.declared.naming.Opening.{Opening}
 use Rattle.b1_model.specs.declared.commands.Command.{Command}
 use Rattle.b1_model.specs.Opening.{IsOpening}
@@ -11,7 +10,7 @@ use Rattle.b1_model.specs.MachineStep.{Reached}
 use Rattle.b1_step.proofs.Steps.{reached_more}
 use Rattle.b1_step.proofs.Locality.{other_driver}
 use Rattle.b1_inv.specs.Words.{IsDriver}
-use Rattle.b1_serial_bus.specs.Parts.{Part, Bus}
+use Rattle.b1_serial_bus.specs.Parts.{Bus}
 use Rattle.b1_serial_rest.specs.Standing.{bus_of}
 use Rattle.b1_serial_rest.specs.Rest.{IsQuiet, BoxesRight, AtRest}
 use Rattle.b1_serial_whole.proofs.Whole.{GoesOn, Whole}

@@ -1,5 +1,5 @@
 -- In every reached state a dead list has items only while its driver gives them up.
-use Rattle.std.proofs.Common.{subst, ℕ, List, [], ◌∷◌}
+use Rattle.std.proofs.Common.{subst, List, [], ◌∷◌}
 use Rattle.b1_model.specs.declared.naming.Opening.{Opening}
 use Rattle.b1_model.specs.Opening.{IsOpening}
 use Rattle.b1_model.specs.MachineParts.{State}

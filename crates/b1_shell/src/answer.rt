@@ -19,7 +19,6 @@ use b1_play_end::{a_finished_play_is_drained, a_stalled_play_is_stuck};
 use b1_play_report::what_is_played_is_spelled;
 use b1_report::print;
 use b1_script::{Script, read_whole};
-use b1_small::small_scripts_run_serially;
 use std::alloc::{AllocError, Global};
 
 /// What is said of a script: the report of what it comes to, or where it stalls.
@@ -32,7 +31,6 @@ fn answer_script(alloc: Global, script: &Script) -> Result<(Said, Vec<u8>), Allo
     a_finished_play_is_drained();
     a_stalled_play_is_stuck();
     what_is_played_is_spelled();
-    small_scripts_run_serially();
     match play(alloc, script)? {
         Played::Done(outcome) => Ok((Said::Done, print(alloc, &outcome)?)),
         Played::Stalled { waiting, reached } => {

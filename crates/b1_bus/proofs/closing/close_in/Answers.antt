@@ -1,14 +1,11 @@
-use Rattle.std.proofs.Common.{◌≡◌, ℕ, ◌<◌, ◌≤◌, List, length, map, vec_capacity, refl, sym, ap, ◌∙◌, subst, arith}
-use Rattle.std.specs.List.{AllByRecursion}
-use Rattle.std.specs.Slots.{slots_items, slots_len}
+use Rattle.std.proofs.Common.{◌≡◌, List, length, sym, ap, ◌∙◌, subst, arith}
+use Rattle.std.specs.Slots.{slots_items}
 use Rattle.atomic_table.specs.Seated.{TableId}
 use Rattle.b1_model.specs.declared.naming.Opening.{Opening}
 use Rattle.b1_model.specs.MachineParts.{State}
 use Rattle.b1_peer.specs.Seen.{PeerSeen}
 use Rattle.b1_rule.specs.Rule.{state_of, LedTo}
-use Rattle.b1_rule.proofs.Whole.{Settled}
 use Rattle.b1_locks.specs.Faces.{IsClosed}
-use Rattle.b1_bus.specs.Seated.{IsOn}
 use Rattle.b1_bus.proofs.States.{settles_all, settled_closed, as_many_as, all_on, many_peers}
 use Rattle.b1_bus.proofs.closing.close_in.Goals as goal
 

@@ -1,9 +1,8 @@
-use Rattle.std.proofs.Common.{◌≡◌, List, length, map, refl, sym, ap, ◌∙◌, subst, arith}
+use Rattle.std.proofs.Common.{◌≡◌, map, sym, ap, ◌∙◌, subst}
 use Rattle.std.specs.List.{AllByRecursion}
 use Rattle.atomic_table.specs.Seated.{TableId}
 use Rattle.b1_model.specs.declared.naming.Opening.{Opening}
-use Rattle.b1_driver.specs.Parts.{Driver}
-use Rattle.b1_locks.specs.Faces.{BusFace, members, crew}
+use Rattle.b1_locks.specs.Faces.{BusFace, members}
 use Rattle.b1_bus.specs.Seated.{seated, IsSeated}
 use Rattle.b1_bus.proofs.Crews.{own_of}
 use Rattle.b1_bus.proofs.States.{all_seated, crew_of}

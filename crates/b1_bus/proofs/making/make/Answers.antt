@@ -1,6 +1,4 @@
-use Rattle.std.proofs.Common.{◌≡◌, List, length, map, refl, sym, ap, ◌∙◌, subst, arith}
-use Rattle.std.specs.Prelude.{All}
-use Rattle.b1_model.specs.declared.naming.Opening.{Opening}
+use Rattle.std.proofs.Common.{◌≡◌, ◌∙◌}
 use Rattle.b1_driver.specs.Parts.{Driver}
 use Rattle.b1_bus.proofs.States.{opened, spare_at, if_ok, parts_of, each_own}
 use Rattle.b1_bus.proofs.making.make.Goals as goal

@@ -1,6 +1,5 @@
-use Rattle.std.proofs.Common.{◌≡◌, ℕ, ◌<◌, List, length, replicate, slice_index, refl, sym, ap, ◌∙◌, subst, arith}
+use Rattle.std.proofs.Common.{◌≡◌, length, replicate, ap, ◌∙◌}
 use Rattle.std.proofs.lemmas.List.{length-replicate}
-use Rattle.b1_rule.specs.Rule.{Kept, held_by, state_of, whole}
 use Rattle.b1_bus.proofs.States.{many_peers, free_board}
 use Rattle.b1_bus.proofs.making.open_board.Goals as goal
 

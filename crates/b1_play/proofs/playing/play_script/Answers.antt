@@ -21,7 +21,13 @@ returns-clause-promises g c =
           legal = c.plays_are_legal.ensures.legal s.opening s.commands s.turns r c.requires.opening play;
           whole = c.plays_are_legal.ensures.whole s.opening s.commands s.turns r c.requires.opening play;
           script = c.what_is_played_is_scripted.ensures.played s.opening s.commands s.turns r c.requires.opening (λ t reached. c.every_reached_state_is_sound.ensures.reached s.opening t c.requires.opening reached) play;
+          serial = λ none. c.plays_without_turns_are_serial.ensures.played s.opening s.commands s.turns r c.requires.opening none play;
+          alone = λ none ample. c.plays_without_turns_are_serial.ensures.alone s.opening s.commands s.turns r c.requires.opening none play ample;
+          unstalled = λ none stalls ample. c.plays_without_turns_are_serial.ensures.unstalled s.opening s.commands s.turns r c.requires.opening none play stalls ample;
         }
     promised (Stalled waiting reached) stall =
         let s = c.args.script.now in
-        c.plays_are_legal.ensures.stalled s.opening s.commands s.turns waiting reached c.requires.opening stall
+        record {
+          legal = c.plays_are_legal.ensures.stalled s.opening s.commands s.turns waiting reached c.requires.opening stall;
+          serial = λ none. c.plays_without_turns_are_serial.ensures.stalled s.opening s.commands s.turns waiting reached c.requires.opening none stall;
+        }

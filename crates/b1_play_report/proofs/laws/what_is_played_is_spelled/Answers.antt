@@ -8,4 +8,4 @@ pub returns-clause-stalled : goal.returns-clause-stalled
 returns-clause-stalled c = λ o lists turns waiting r valid none stall. stalled_spelled o lists turns valid none waiting r stall
 
 pub returns-clause-reached : goal.returns-clause-reached
-returns-clause-reached c = λ o lists s valid none reached follow. reached_spelled o lists s valid none reached follow
+returns-clause-reached c = λ o lists s valid none reached placed. reached_spelled o lists s valid none reached placed

@@ -1,5 +1,3 @@
-use Rattle.std.proofs.Common.{ℕ, ◌≡◌, ◌<◌, slice_get, Some, [], false}
-use Rattle.b1_model.specs.MachineParts.{PeerPart, DriverPart}
 use Rattle.b1_rule.specs.Rule.{state_of}
 use Rattle.b1_run.specs.Standing.{EmptyBelow}
 use Rattle.b1_run.proofs.closing.is_drained.Given as goal

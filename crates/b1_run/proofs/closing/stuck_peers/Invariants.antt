@@ -1,4 +1,4 @@
-use Rattle.std.proofs.Common.{ℕ, ◌≡◌, ◌<◌}
+use Rattle.std.proofs.Common.{◌≡◌}
 use Rattle.std.specs.List.{filter, range_with_len}
 use Rattle.b1_rule.specs.Rule.{state_of}
 use Rattle.b1_schedule.specs.Schedule.{is_left}

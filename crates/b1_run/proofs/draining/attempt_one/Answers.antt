@@ -1,9 +1,9 @@
-use Rattle.std.proofs.Common.{◌≡◌, ℕ, ◌≤◌, Bool, true, false, length, slice_get, None, refl, sym, ap, ◌∙◌, subst, arith}
+use Rattle.std.proofs.Common.{◌≡◌, ◌≤◌, false, length, sym, subst}
 use Rattle.std.proofs.lemmas.Option.{slice_get_past}
 use Rattle.b1_model.specs.Script.{commands_of}
 use Rattle.b1_locks.specs.Faces.{DriverFace}
-use Rattle.b1_run.specs.Workers.{IsAt, HasRoom, MayHaveRoom}
-use Rattle.b1_run.proofs.Following.{drain_follows, drain_stays, room_at, still_at}
+use Rattle.b1_run.specs.Workers.{HasRoom, MayHaveRoom}
+use Rattle.b1_run.proofs.Following.{drain_follows, room_at, still_at}
 use Rattle.b1_run.proofs.draining.attempt_one.Goals as goal
 
 pub returns-then-took-clause-at : goal.returns-then-took-clause-at
@@ -16,4 +16,4 @@ returns-then-took-clause-at g c =
     let ended : length commands ≤ length before.own.part.calls = subst (λ (d : DriverFace). length commands ≤ length d.own.part.calls) (sym room.same) c.requires.ended in
     let there : before.own.part.shut ≡ false = subst (λ (d : DriverFace). d.own.part.shut ≡ false) (sym room.same) c.requires.there in
     still_at c.args.bus.now commands c.args._p before after at c.finish_command.ensures.member
-      (drain_follows commands before.own.part after.own.part at.follows (slice_get_past commands (length before.own.part.calls) ended) there c.finish_command.ensures.ended)
+    (drain_follows commands before.own.part after.own.part at.follows (slice_get_past commands (length before.own.part.calls) ended) there c.finish_command.ensures.ended)

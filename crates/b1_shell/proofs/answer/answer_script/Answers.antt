@@ -1,7 +1,8 @@
-use Rattle.std.proofs.Common.{subst}
+use Rattle.std.proofs.Common.{subst, ap, ◌∙◌}
 use Rattle.b1_schedule.specs.Schedule.{IsPlay, IsStall}
-use Rattle.b1_play.specs.Plays.{IsDone, PlaysAsPromised, PlaysScript}
-use Rattle.b1_shell.proofs.Plays.{no_limits, serial_record}
+use Rattle.b1_report.specs.Report.{report_text}
+use Rattle.b1_play.specs.Plays.{IsDone, IsStalled, PlaysAsPromised, PlaysScript}
+use Rattle.b1_shell.proofs.Plays.{no_limits}
 use Rattle.b1_shell.proofs.answer.answer_script.Goals as goal
 
 pub print-requires : goal.print-requires
@@ -31,7 +32,9 @@ returns-in_ok-print-in-Done c =
       legal = kept.legal;
       whole = kept.whole;
       script = kept.script;
-      small = serial_record c.small_scripts_run_serially.ensures.within c.small_scripts_run_serially.ensures.light s r play;
+      serial = kept.serial;
+      alone = λ none ample. c.in_ok-print-in-Done.ensures.text ∙ ap report_text (kept.alone none ample);
+      unstalled = kept.unstalled;
       text_is = c.in_ok-print-in-Done.ensures.text;
       again = c.in_ok-print-in-Done.ensures.report;
     }
@@ -41,12 +44,14 @@ returns-in_ok-stall_report-in-Stalled c =
     let s = c.args.script.now in
     let r = c.in-Stalled.reached in
     let stall : IsStall s.opening s.commands s.turns c.in-Stalled.waiting r = subst (PlaysScript s) c.in-Stalled.is c.in_ok-outcome.ensures.plays in
+    let kept : IsStalled s c.in-Stalled.waiting r = subst (PlaysAsPromised s) c.in-Stalled.is c.in_ok-outcome.ensures.promises in
     record {
       waiting = c.in-Stalled.waiting;
       outcome = r;
       stalls = stall;
       stuck = c.a_stalled_play_is_stuck.ensures s.opening s.commands s.turns c.in-Stalled.waiting r c.requires.opening stall;
-      legal = subst (PlaysAsPromised s) c.in-Stalled.is c.in_ok-outcome.ensures.promises;
+      legal = kept.legal;
+      serial = kept.serial;
       script = c.what_is_played_is_scripted.ensures.stalled s.opening s.commands s.turns c.in-Stalled.waiting r c.requires.opening (λ t reached. c.every_reached_state_is_sound.ensures.reached s.opening t c.requires.opening reached) stall;
       text_is = c.in_ok-stall_report-in-Stalled.ensures;
     }

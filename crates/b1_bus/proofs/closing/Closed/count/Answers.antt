@@ -1,4 +1,4 @@
-use Rattle.std.proofs.Common.{◌≡◌, ℕ, ◌≤◌, length, sym, ap, ◌∙◌, arith}
+use Rattle.std.proofs.Common.{arith}
 use Rattle.b1_bus.proofs.States.{many_peers}
 use Rattle.b1_bus.proofs.closing.Closed.count.Goals as goal
 

@@ -1,5 +1,4 @@
-use Rattle.std.proofs.Common.{◌≡◌, ◌<◌, length, get_or, slice_get, Some, None, sym, ap, ◌∙◌, subst, refl}
-use Rattle.b1_driver.specs.Parts.{Driver}
+use Rattle.std.proofs.Common.{sym, ◌∙◌}
 use Rattle.b1_bus.proofs.States.{all_closed, many_peers, many_drivers}
 use Rattle.b1_bus.proofs.closing.Closed.facts.Goals as goal
 
