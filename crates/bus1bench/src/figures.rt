@@ -11,7 +11,7 @@ use std::thread::Threads;
 use std::time::{Duration, Instant};
 
 // How many messages a run without words sends.
-const FEW: usize = 300;
+const FEW: u32 = 300;
 
 /// One pair, and some hundred messages.
 pub fn small_run<R: Runtime + Threads + Wait + Sync>(rt: &R, alloc: Global) -> io::Result<()> {
@@ -25,17 +25,17 @@ fn time_of<R: Runtime + Threads + Wait + Sync>(
     alloc: Global,
     opening: &Opening,
     shape: Shape,
-    messages: usize,
+    messages: u32,
 ) -> io::Result<Duration> {
     if !valid_opening(alloc, opening)? {
         return Err(io::Error::from(io::ErrorKind::InvalidInput));
     }
     let mut crew = Crew::open(alloc, opening)?;
     let room = MakeRoom {
-        calls: messages.saturating_mul(2),
+        calls: messages.saturating_mul(2) as usize,
     };
     crew.play(rt, alloc, &OpenGate, &room);
-    let flow = Flow::new(shape, messages);
+    let flow = Flow::new(alloc, shape, messages, opening.peers.len() as u32)?;
     let start = Instant::now(rt)?;
     crew.play(rt, alloc, &OpenGate, &flow);
     let time = start.elapsed(rt)?;
@@ -46,12 +46,12 @@ fn time_of<R: Runtime + Threads + Wait + Sync>(
 }
 
 // How many a second.
-fn rate(count: usize, time: Duration) -> u128 {
+fn rate(count: u64, time: Duration) -> u128 {
     (count as u128).saturating_mul(1_000_000) / time.as_micros().max(1)
 }
 
 // Prints one figure, and gives it.
-fn print_rate<R: Runtime>(rt: &R, name: &str, count: usize, time: Duration) -> io::Result<u128> {
+fn print_rate<R: Runtime>(rt: &R, name: &str, count: u64, time: Duration) -> io::Result<u128> {
     let rate = rate(count, time);
     println!(rt; "{name}: {rate} messages a second")?;
     Ok(rate)
@@ -64,11 +64,11 @@ fn print_pairs<R: Runtime + Threads + Wait + Sync>(
     name: &str,
     peers: u32,
     count: u8,
-    messages: usize,
+    messages: u32,
 ) -> io::Result<u128> {
     let opening = pairs(alloc, peers, count)?;
     let time = time_of(rt, alloc, &opening, Shape::Pairs(count), messages)?;
-    print_rate(rt, name, messages.saturating_mul(count as usize), time)
+    print_rate(rt, name, messages as u64 * count as u64, time)
 }
 
 // Prints how a rate compares with that of one pair, in hundredths.
@@ -82,7 +82,7 @@ fn print_ratio<R: Runtime>(rt: &R, name: &str, rate: u128, one: u128) -> io::Res
 pub fn print_figures<R: Runtime + Threads + Wait + Sync>(
     rt: &R,
     alloc: Global,
-    messages: usize,
+    messages: u32,
 ) -> io::Result<()> {
     let one = print_pairs(rt, alloc, "one pair", 2, 1, messages)?;
     let four = print_pairs(rt, alloc, "four pairs", 8, 4, messages)?;
@@ -93,6 +93,6 @@ pub fn print_figures<R: Runtime + Threads + Wait + Sync>(
     print_ratio(rt, "four pairs of 64 peers", beside, one)?;
     let opening = star(alloc, 8)?;
     let time = time_of(rt, alloc, &opening, Shape::Multicast, messages)?;
-    print_rate(rt, "one multicast to eight", messages, time)?;
+    print_rate(rt, "one multicast to eight", messages as u64, time)?;
     Ok(())
 }

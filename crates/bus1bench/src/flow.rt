@@ -8,11 +8,14 @@ use b1_edge::Gate;
 use b1_model::{Answer, Bytes, Nums, Receipt, SendCmd, Tried};
 use std::alloc::{AllocError, Global};
 use std::sync::Wait;
-use std::sync::atomic::{AtomicBool, Ordering};
+use std::sync::atomic::{AtomicBool, AtomicU64, Ordering};
 use std::thread;
 
 // The numbers by which a sender knows its recipients.
 const NUMBERS: [u64; 8] = [2, 6, 10, 14, 18, 22, 26, 30];
+
+// How many messages a sender is ahead of its recipients at most.
+const WINDOW: u64 = 64;
 
 // What each message carries.
 const PAYLOAD: [u8; 8] = *b"8 bytes.";
@@ -38,18 +41,24 @@ enum Role {
 #[derive(Drop)]
 pub struct Flow {
     shape: Shape,
-    messages: usize,
+    messages: u64,
+    received: Vec<AtomicU64>,
     failed: AtomicBool,
 }
 
 impl Flow {
-    /// So many messages of each sender.
-    pub fn new(shape: Shape, messages: usize) -> Flow {
-        Flow {
-            shape,
-            messages,
-            failed: AtomicBool::new(false),
+    /// So many messages of each sender, among so many peers. An error is want of memory.
+    pub fn new(alloc: Global, shape: Shape, messages: u32, peers: u32) -> Result<Flow, AllocError> {
+        let mut received = Vec::new(alloc);
+        for _ in 0..peers {
+            received.push(AtomicU64::new(0))?;
         }
+        Ok(Flow {
+            shape,
+            messages: messages as u64,
+            received,
+            failed: AtomicBool::new(false),
+        })
     }
 
     /// Whether some driver has given up, for want of memory or room.
@@ -60,6 +69,27 @@ impl Flow {
     // A driver gives up.
     fn fail(&self) {
         self.failed.store(true, Ordering::SeqCst);
+    }
+
+    // How many messages a peer has received.
+    fn received_by(&self, peer: usize) -> u64 {
+        match self.received.get(peer) {
+            Some(count) => count.load(Ordering::SeqCst),
+            None => 0,
+        }
+    }
+
+    // Whether a sender that has sent so many is as far ahead of a recipient as it may be.
+    fn is_ahead(&self, peer: usize, sent: u64) -> bool {
+        let recipients = match self.shape {
+            Shape::Pairs(_) => 1,
+            Shape::Multicast => NUMBERS.len(),
+        };
+        (1..=recipients).any(|step| {
+            sent >= self
+                .received_by(peer.saturating_add(step))
+                .saturating_add(WINDOW)
+        })
     }
 
     // What a peer does.
@@ -116,38 +146,61 @@ impl Flow {
         alloc: Global,
         bus: &Bus,
         gate: &G,
+        peer: usize,
         driver: &mut Driver,
     )
         requires { IsOf driver.old bus.now }
         ensures own { IsOf driver.new bus.now }
         ensures still { IsStill driver.old driver.new }
     {
-        for _ in 0..self.messages {
-            if !self.send_one(rt, alloc, bus, gate, driver) {
-                self.fail();
+        let mut sent = 0;
+        for _ in rt.forever() {
+            if sent >= self.messages || self.has_failed() {
                 return;
+            }
+            if self.is_ahead(peer, sent) {
+                thread::yield_now();
+            } else if self.send_one(rt, alloc, bus, gate, driver) {
+                sent += 1;
+            } else {
+                self.fail();
             }
         }
     }
 
     // Receives until all messages are here.
-    fn receive_all<R: Wait, G: Gate>(&self, rt: &R, bus: &Bus, gate: &G, driver: &mut Driver)
+    fn receive_all<R: Wait, G: Gate>(
+        &self,
+        rt: &R,
+        bus: &Bus,
+        gate: &G,
+        peer: usize,
+        driver: &mut Driver,
+    )
         requires { IsOf driver.old bus.now }
         ensures own { IsOf driver.new bus.now }
         ensures still { IsStill driver.old driver.new }
     {
-        let mut left = self.messages;
+        let mut count = 0;
         for _ in rt.forever() {
-            if left == 0 || self.has_failed() {
+            if count >= self.messages || self.has_failed() {
                 return;
             }
             if driver.spare() < 2 {
                 self.fail();
             } else if receive_one(rt, bus, gate, driver) {
-                left -= 1;
+                count += 1;
+                self.tell(peer, count);
             } else {
                 thread::yield_now();
             }
+        }
+    }
+
+    // A peer tells how many messages it has received.
+    fn tell(&self, peer: usize, count: u64) {
+        if let Some(received) = self.received.get(peer) {
+            received.store(count, Ordering::SeqCst);
         }
     }
 }
@@ -201,8 +254,8 @@ impl Part for Flow {
         driver: &mut Driver,
     ) {
         match self.role(peer) {
-            Role::Sends => self.send_all(rt, alloc, bus, gate, driver),
-            Role::Receives => self.receive_all(rt, bus, gate, driver),
+            Role::Sends => self.send_all(rt, alloc, bus, gate, peer, driver),
+            Role::Receives => self.receive_all(rt, bus, gate, peer, driver),
             Role::StandsIdle => {}
         }
     }

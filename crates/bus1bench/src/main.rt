@@ -20,7 +20,7 @@ use std::{env, io};
 const FAILED: u8 = 1;
 
 // The most messages a sender.
-const MOST_MESSAGES: usize = 400_000;
+const MOST_MESSAGES: u32 = 400_000;
 
 fn main(rt: HostRuntime) -> ExitCode {
     match run(&rt) {
@@ -35,7 +35,7 @@ fn run<R: Runtime<A = Global> + Threads + Wait + Sync>(rt: &R) -> io::Result<()>
     let words = env::args(rt)?.skip(1).collect::<Vec<String>>(alloc)?;
     match words.as_slice() {
         [] => small_run(rt, alloc),
-        [word] => match word.as_str().parse::<usize>() {
+        [word] => match word.as_str().parse::<u32>() {
             Ok(messages) if messages > 0 && messages <= MOST_MESSAGES => {
                 print_figures(rt, alloc, messages)
             }

@@ -1,11 +1,11 @@
 use b1_model::{Limits, Opening, PeerSpec, Peers, Wire, Wires};
 use std::alloc::{AllocError, Global};
 
-// A peer that no message of a run finds full.
+// A peer with more room than a sender is ahead of it.
 fn ample(user: u32) -> PeerSpec {
     PeerSpec {
         user,
-        pool: 4_194_304,
+        pool: 65_536,
         limits: Limits {
             entries: 4_000_000_000,
             bytes: 4_000_000_000,
