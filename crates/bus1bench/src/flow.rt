@@ -42,21 +42,21 @@ enum Role {
 pub struct Flow {
     shape: Shape,
     messages: u64,
-    received: Vec<AtomicU64>,
+    done: Vec<AtomicU64>,
     failed: AtomicBool,
 }
 
 impl Flow {
     /// So many messages of each sender, among so many peers. An error is want of memory.
     pub fn new(alloc: Global, shape: Shape, messages: u32, peers: u32) -> Result<Flow, AllocError> {
-        let mut received = Vec::new(alloc);
+        let mut done = Vec::new(alloc);
         for _ in 0..peers {
-            received.push(AtomicU64::new(0))?;
+            done.push(AtomicU64::new(0))?;
         }
         Ok(Flow {
             shape,
             messages: messages as u64,
-            received,
+            done,
             failed: AtomicBool::new(false),
         })
     }
@@ -71,11 +71,18 @@ impl Flow {
         self.failed.store(true, Ordering::SeqCst);
     }
 
-    // How many messages a peer has received.
-    fn received_by(&self, peer: usize) -> u64 {
-        match self.received.get(peer) {
+    // How many messages a peer has sent or received.
+    fn done_by(&self, peer: usize) -> u64 {
+        match self.done.get(peer) {
             Some(count) => count.load(Ordering::SeqCst),
             None => 0,
+        }
+    }
+
+    // A peer tells how many messages it has sent or received.
+    fn tell(&self, peer: usize, count: u64) {
+        if let Some(done) = self.done.get(peer) {
+            done.store(count, Ordering::SeqCst);
         }
     }
 
@@ -85,11 +92,19 @@ impl Flow {
             Shape::Pairs(_) => 1,
             Shape::Multicast => NUMBERS.len(),
         };
-        (1..=recipients).any(|step| {
-            sent >= self
-                .received_by(peer.saturating_add(step))
-                .saturating_add(WINDOW)
-        })
+        (1..=recipients).any(|step| sent
+            >= self
+                .done_by(peer.saturating_add(step))
+                .saturating_add(WINDOW))
+    }
+
+    // Whether a recipient that has received so many has been sent more.
+    fn has_more(&self, peer: usize, received: u64) -> bool {
+        let sender = match self.shape {
+            Shape::Pairs(_) => peer.saturating_sub(1),
+            Shape::Multicast => 0,
+        };
+        received < self.done_by(sender)
     }
 
     // What a peer does.
@@ -162,6 +177,7 @@ impl Flow {
                 thread::yield_now();
             } else if self.send_one(rt, alloc, bus, gate, driver) {
                 sent += 1;
+                self.tell(peer, sent);
             } else {
                 self.fail();
             }
@@ -186,7 +202,9 @@ impl Flow {
             if count >= self.messages || self.has_failed() {
                 return;
             }
-            if driver.spare() < 2 {
+            if !self.has_more(peer, count) {
+                thread::yield_now();
+            } else if driver.spare() < 2 {
                 self.fail();
             } else if receive_one(rt, bus, gate, driver) {
                 count += 1;
@@ -194,13 +212,6 @@ impl Flow {
             } else {
                 thread::yield_now();
             }
-        }
-    }
-
-    // A peer tells how many messages it has received.
-    fn tell(&self, peer: usize, count: u64) {
-        if let Some(received) = self.received.get(peer) {
-            received.store(count, Ordering::SeqCst);
         }
     }
 }
