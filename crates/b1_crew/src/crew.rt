@@ -1,6 +1,5 @@
-ghost use Rattle.std.specs.Prelude.{◌≡◌, ◌+◌, ◌<◌, length, map, IfOk};
+ghost use Rattle.std.specs.Prelude.{◌≡◌, ◌+◌, map, IfOk};
 ghost use Rattle.b1_crew.specs.Parts.{AreAll};
-ghost use Rattle.b1_locks.specs.Faces.{crew};
 ghost use Rattle.b1_rule.specs.Rule.{state_of, LedTo};
 ghost use Rattle.b1_model.specs.Opening.{IsOpening};
 ghost use Rattle.b1_model.specs.MachineStep.{opening_state};

@@ -1,5 +1,5 @@
 -- What the functions' proofs cite: of scripts that are played, and of inputs.
-use Rattle.std.proofs.Common.{◌-◌, take, drop, ◌≡◌, ◌⊎◌, inl, inr, refl, sym, ap, ◌∙◌, subst, arith, ℕ, ◌+◌, ◌<◌, ◌≤◌, List, length, Option, Some, None, IfSome, lt-ltb}
+use Rattle.std.proofs.Common.{◌-◌, take, drop, ◌≡◌, ◌⊎◌, inl, inr, refl, sym, ◌∙◌, subst, arith, ℕ, ◌+◌, ◌<◌, ◌≤◌, List, length, Option, Some, None, IfSome, lt-ltb}
 use Rattle.std.specs.Prelude.{[], ◌∷◌, codes}
 use Rattle.std.specs.Fmt.{decimal}
 use Rattle.std.proofs.lemmas.Fmt.{decimal_injective}
@@ -22,10 +22,9 @@ use Rattle.b1_shell.specs.declared.forms.Form.{Form}
 use Rattle.b1_shell.specs.declared.forms.Form.TheVariants.{Play, Asm, Dump, Check}
 use Rattle.b1_shell.specs.Answers.{Says, TookText, TookPart, status}
 use Rattle.b1_shell.specs.Ends.{TellsInput}
-use Rattle.b1_shell.specs.Runs.{RunSays, TellsRun, TellsSoak}
-use Rattle.b1_soak.specs.Soaks.{IsSoak}
+use Rattle.b1_shell.specs.Runs.{RunSays, TellsRun}
 use Rattle.b1_shell.specs.Threads as threads
-use Rattle.b1_shell.specs.declared.threaded.Threaded.TheVariants.{Run, Soak}
+use Rattle.b1_shell.specs.declared.threaded.Threaded.TheVariants.{Soak}
 use Rattle.b1_shell.specs.Faults.{IsFault, long, report}
 use Rattle.b1_model.specs.declared.limits.TheConstants.{MOST_CHECKED, MOST_SCRIPT}
 use Rattle.b1_shell.specs.Forms.{Asks, most_input}

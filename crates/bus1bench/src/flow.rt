@@ -1,4 +1,3 @@
-ghost use Rattle.std.specs.Prelude.{◌≡◌};
 ghost use Rattle.b1_locks.specs.Faces.{IsOf};
 ghost use Rattle.b1_crew.specs.Parts.{IsStill};
 

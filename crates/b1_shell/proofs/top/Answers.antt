@@ -1,4 +1,4 @@
-use Rattle.std.proofs.Common.{◌≡◌, ◌∙◌, sym, subst, ℕ}
+use Rattle.std.proofs.Common.{◌≡◌, subst, ℕ}
 use Rattle.b1_shell.specs.Ends.{spelled}
 use Rattle.b1_shell.specs.Runs.{TellsSoak}
 use Rattle.b1_shell.specs.Threads as threads
