@@ -1,4 +1,5 @@
 pub mod CountLemmas
 pub mod NodeLemmas
+pub mod IndexLemmas
 pub mod Doomed
 pub mod Words

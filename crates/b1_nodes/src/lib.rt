@@ -4,6 +4,7 @@
 
 mod counts;
 mod destructions;
+mod index;
 mod node;
 mod nodes;
 mod numbers;

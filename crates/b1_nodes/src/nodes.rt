@@ -1,8 +1,9 @@
 ghost use Rattle.std.specs.Prelude.{◌≡◌, ◌&&◌, ◌+◌, ◌-◌, ◌<◌, ◌≤◌, ◌^◌, ℕ, [], ◌∷◌, ◌++◌, true, false, length, vec_len};
 ghost use Rattle.std.specs.Vec.{vec_capacity};
 ghost use Rattle.b1_model.specs.MachineParts.{is_live, is_destroyed};
-ghost use Rattle.b1_model.specs.MachineTables.{count_of, counted, uncounted, serial_of, with_node, is_unheld, notice_taken};
+ghost use Rattle.b1_model.specs.MachineTables.{count_of, counted, uncounted, with_node, is_unheld, notice_taken};
 ghost use Rattle.b1_nodes.specs.Nodes.{node_in, AreNodes};
+ghost use Rattle.b1_nodes.specs.Index.{AreNamedAlike};
 
 use crate::node::Node;
 
@@ -12,24 +13,6 @@ pub fn node_at(nodes: &[Node], serial: u32) -> &Node
     ensures { result.now ≡ node_in nodes.now serial }
 {
     &nodes[serial as usize]
-}
-
-/// The serial of the first node with a number.
-pub fn find_number(nodes: &[Node], number: u64) -> Option<u32>
-    requires { length nodes.now < 2 ^ 32 }
-    ensures { result ≡ serial_of number nodes.now }
-{
-    match place_of(nodes, number) {
-        Some(place) => Some(place as u32),
-        None => None,
-    }
-}
-
-// Where the first node with a number stands.
-fn place_of(nodes: &[Node], number: u64) -> Option<usize>
-    ensures { result ≡ serial_of number nodes.now }
-{
-    nodes.iter().position(|n| n.number() == number)
 }
 
 /// Puts a node behind the others.
@@ -53,6 +36,7 @@ pub fn raise_at(nodes: &mut Vec<Node>, serial: u32, peer: u32)
     requires fits { count_of (node_in nodes.old.items serial) peer < 2 ^ 63 }
     ensures nodes { nodes.new.items ≡ with_node serial (counted peer) nodes.old.items }
     ensures kept { (peers : ℕ) → AreNodes peers nodes.old.items → AreNodes peers nodes.new.items }
+    ensures numbers { AreNamedAlike nodes.old.items nodes.new.items }
     ensures capacity { vec_capacity nodes.new ≡ vec_capacity nodes.old }
     ensures len { vec_len nodes.new ≡ vec_len nodes.old }
 {
@@ -68,6 +52,7 @@ pub fn lower_at(nodes: &mut Vec<Node>, serial: u32, holder: u32, k: u64) -> bool
         && is_unheld (node_in nodes.new.items serial)) }
     ensures nodes { nodes.new.items ≡ with_node serial (uncounted holder k) nodes.old.items }
     ensures kept { (peers : ℕ) → AreNodes peers nodes.old.items → AreNodes peers nodes.new.items }
+    ensures numbers { AreNamedAlike nodes.old.items nodes.new.items }
     ensures capacity { vec_capacity nodes.new ≡ vec_capacity nodes.old }
     ensures len { vec_len nodes.new ≡ vec_len nodes.old }
 {
@@ -81,6 +66,7 @@ pub fn mark_taken(nodes: &mut Vec<Node>, serial: u32)
     requires { serial < length nodes.old.items }
     ensures nodes { nodes.new.items ≡ with_node serial notice_taken nodes.old.items }
     ensures kept { (peers : ℕ) → AreNodes peers nodes.old.items → AreNodes peers nodes.new.items }
+    ensures numbers { AreNamedAlike nodes.old.items nodes.new.items }
     ensures capacity { vec_capacity nodes.new ≡ vec_capacity nodes.old }
     ensures len { vec_len nodes.new ≡ vec_len nodes.old }
 {

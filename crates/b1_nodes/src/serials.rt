@@ -5,6 +5,7 @@ ghost use Rattle.b1_model.specs.declared.parts.NodeState.TheVariants.{Dying, Des
 ghost use Rattle.b1_model.specs.MachineParts.{is_destroyed};
 ghost use Rattle.b1_model.specs.MachineTables.{count_of, in_state, with_nodes};
 ghost use Rattle.b1_nodes.specs.Nodes.{node_in, holders, AllMade, AreNodes};
+ghost use Rattle.b1_nodes.specs.Index.{AreNamedAlike};
 
 use crate::node::Node;
 use crate::nodes::node_at;
@@ -44,6 +45,7 @@ pub fn doom_all(nodes: &mut Vec<Node>, serials: &[u32])
     requires { AllMade (λ n. not (is_destroyed n.state)) nodes.old.items serials.now }
     ensures nodes { nodes.new.items ≡ with_nodes serials.now (in_state Dying) nodes.old.items }
     ensures kept { (peers : ℕ) → AreNodes peers nodes.old.items → AreNodes peers nodes.new.items }
+    ensures numbers { AreNamedAlike nodes.old.items nodes.new.items }
     ensures capacity { vec_capacity nodes.new ≡ vec_capacity nodes.old }
     ensures len { vec_len nodes.new ≡ vec_len nodes.old }
 {
@@ -58,6 +60,7 @@ pub fn destroy_all(nodes: &mut Vec<Node>, serials: &[u32], stamp: u64)
     ensures nodes { nodes.new.items
         ≡ with_nodes serials.now (in_state (Destroyed stamp)) nodes.old.items }
     ensures kept { (peers : ℕ) → AreNodes peers nodes.old.items → AreNodes peers nodes.new.items }
+    ensures numbers { AreNamedAlike nodes.old.items nodes.new.items }
     ensures capacity { vec_capacity nodes.new ≡ vec_capacity nodes.old }
     ensures len { vec_len nodes.new ≡ vec_len nodes.old }
 {

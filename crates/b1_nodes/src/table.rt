@@ -6,11 +6,13 @@ ghost use Rattle.b1_model.specs.MachineTables.{count_of, serial_of, with_made, w
 ghost use Rattle.b1_nodes.specs.Nodes.{node_in, attach_answer, attached as with_attached, holders as with_reference, AllMade, AreNodes};
 
 use crate::counts::add_rooms;
+use crate::index::{add_to, find_in, reserve_in};
 use crate::node::Node;
-use crate::nodes::{find_number, forget_at, lower_at, mark_taken, node_at, push_node, raise_at};
+use crate::nodes::{forget_at, lower_at, mark_taken, node_at, push_node, raise_at};
 use crate::serials::{destroy_all, doom_all, holders_of};
 use b1_model::{Attach, MOST_PEERS, NodeState, Nums, PeerSet};
 use std::alloc::{AllocError, Global};
+use std::collections::HashMap;
 use std::marker::Model;
 
 /// A peer's own nodes, by their serials: a node's place in the order in which they were made, from 0.
@@ -19,6 +21,7 @@ pub struct NodeTable {
     owner: u32,
     peers: u32,
     nodes: Vec<Node>,
+    index: HashMap<u64, u32>,
     late: PeerSet,
     rooms: Vec<Nums>,
     alloc: Global,
@@ -28,7 +31,9 @@ impl Model for NodeTable {
     ghost use Rattle.b1_model.specs.declared.limits.TheConstants.{MOST_PEERS};
     ghost use Rattle.std.specs.Prelude.{◌≡◌, ◌+◌, ◌<◌, ◌≤◌, ◌^◌, All, length, replicate, vec_len};
     ghost use Rattle.std.specs.Vec.{vec_capacity};
+    ghost use Rattle.std.specs.HashMap.{spare as index_spare};
     ghost use Rattle.b1_nodes.specs.Nodes.{Nodes, AreNodes};
+    ghost use Rattle.b1_nodes.specs.Index.{IsIndex};
 
     ghost Value = { Nodes };
 
@@ -46,6 +51,8 @@ impl Model for NodeTable {
       nodes : AreNodes t.peers t.nodes.items;
       rooms : All (λ r. r ≡ replicate t.peers 0) t.rooms.items;
       capacity : vec_len t.nodes + vec_len t.rooms ≤ vec_capacity t.nodes;
+      index : IsIndex t.index t.nodes.items;
+      places : vec_len t.rooms ≤ index_spare t.index;
     } };
 }
 
@@ -61,6 +68,7 @@ impl NodeTable {
             owner,
             peers,
             nodes: Vec::new(alloc),
+            index: HashMap::new(alloc),
             late: PeerSet::new(),
             rooms: Vec::new(alloc),
             alloc,
@@ -74,6 +82,7 @@ impl NodeTable {
         ensures spare { self.old.spare ≤ self.new.spare }
     {
         self.nodes.reserve(n)?;
+        reserve_in(&mut self.index, n)?;
         add_rooms(&mut self.rooms, self.alloc, self.peers, n)
     }
 
@@ -95,6 +104,7 @@ impl NodeTable {
         let Some(room) = self.rooms.pop() else {
             unreachable!()
         };
+        add_to(&mut self.index, number, serial);
         push_node(
             &mut self.nodes,
             Node::new(number, self.peers, room.into_vec()),
@@ -120,11 +130,12 @@ impl NodeTable {
         node_at(&self.nodes, serial).number()
     }
 
-    /// The serial of the node with an own number; `None` where there is none.
+    /// The serial of the node with an own number; `None` where there is none. Takes the time of one look-up in a hash table,
+    /// however many nodes there are.
     pub fn find(&self, number: u64) -> Option<u32>
         ensures { result ≡ serial_of number self.now.nodes }
     {
-        find_number(&self.nodes, number)
+        find_in(&self.index, number)
     }
 
     /// A node's life.

@@ -4,6 +4,7 @@ use Rattle.b1_model.specs.declared.parts.NodeState.TheVariants.{Dying}
 use Rattle.b1_model.specs.MachineParts.{is_destroyed}
 use Rattle.b1_model.specs.MachineTables.{in_state, with_nodes}
 use Rattle.b1_nodes.specs.Nodes.{AllMade, AreNodes}
+use Rattle.b1_nodes.specs.Index.{AreNamedAlike}
 use Rattle.b1_nodes.proofs.serials.doom_all.Given as goal
 
 abbrev pub invariant-loop-serial : goal.invariant-loop-serial
@@ -11,6 +12,7 @@ invariant-loop-serial l = record {
   nodes : l.nodes.items ≡ with_nodes (take l.serial-index l.serials) (in_state Dying) l.fn.nodes.items;
   made : AllMade (λ n. not (is_destroyed n.state)) l.nodes.items l.serials;
   kept : (peers : ℕ) → AreNodes peers l.fn.nodes.items → AreNodes peers l.nodes.items;
+  numbers : AreNamedAlike l.fn.nodes.items l.nodes.items;
   capacity : vec_capacity l.nodes ≡ vec_capacity l.fn.nodes;
   len : vec_len l.nodes ≡ vec_len l.fn.nodes;
 }
