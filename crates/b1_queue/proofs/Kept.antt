@@ -5,12 +5,12 @@ use Rattle.std.specs.List.{AllWithin}
 use Rattle.std.specs.declared.cmp.Ordering.TheVariants.{Less}
 use Rattle.std.proofs.lemmas.List.{get_or-set_same, get_or-set_other, length-set}
 use Rattle.std.proofs.lemmas.List.Elements.{All-filter, All-head, All-tail}
-use Rattle.std.proofs.lemmas.Bool.{eq-eqb, ne_eqb, eqb-true, cases_eq, cases_Bool, false≢true}
+use Rattle.std.proofs.lemmas.Bool.{eq-eqb, ne_eqb, eqb-true, cases_lt, cases_eq, cases_Bool, false≢true}
 use Rattle.b1_model.specs.Keys.{compare_keys}
 use Rattle.b1_model.specs.declared.naming.Key.{Key}
 use Rattle.b1_queue.specs.Queue.{is_before, IsKept, with_entry, without, key_of, IsNewKey, IsNewItem}
 use Rattle.b1_queue.proofs.Order.{before_from_less, not_before_itself}
-use Rattle.b1_queue.proofs.Entries.{AllPairs-head, AllPairs-tail, IsQueue-filter, IsQueue-with_entry, IsNewItem-without, find_none, removed_is, split_is}
+use Rattle.b1_queue.proofs.Entries.{AllPairs-head, AllPairs-tail, IsQueue-filter, IsQueue-with_entry, IsNewItem-without, find_first, find_none, removed_is, split_is}
 
 -- where an entry with a given item stands, if there is one
 pub record StandsAt (q : List (Key × ℕ)) (key : Key) (item i : ℕ) : Type 0 where
@@ -141,3 +141,29 @@ without_absent (x ∷ q) item none =
 pub removed_at : (q : List (Key × ℕ)) (key : Key) (item at : ℕ) → AllPairs (λ a b. a.1 ≢ b.1) q → StandsAt q key item at → remove q at ≡ without item q
 removed_at q key item at distinct stands =
     removed_is item q at distinct stands.within (λ d. eq-eqb _ _ (ap (λ (e : Key × ℕ). e.1) (stands.here d)))
+
+-- the key of each entry's item is its own
+pub key_known : (q : List (Key × ℕ)) (item : ℕ) → AllPairs (λ a b. a.1 ≢ b.1) q → All (λ e. e.1 ≡ item → key_of item q ≡ Some e.0) q
+key_known q item distinct k d lt same =
+    ap (λ o. option_map (λ (e : Key × ℕ). e.0) o)
+    (find_first (λ e. e.1 == item) q k d lt (λ j low. ne_eqb _ _ (λ s. distinct j k d low lt (s ∙ sym same))) (eq-eqb _ _ same))
+
+-- a key that is not where it would be is nowhere
+pub new_past : (q : List (Key × ℕ)) (key : Key) (at : ℕ) → AllWithin (λ e. is_before e.0 key ≡ true) q 0 at → length q ≤ at → IsNewKey key q
+new_past q key at before past k d lt same =
+    let early : is_before (get_or q k d).0 key ≡ true = before k d (omega arith) (omega arith) in
+    absurd (false≢true (sym (not_before_itself key) ∙ subst (λ (x : Key). is_before x key ≡ true) same early))
+
+pub new_there : (q : List (Key × ℕ)) (key : Key) (at : ℕ) → AllPairs (λ a b. compare_keys a.0 b.0 ≡ Less) q → AllWithin (λ e. is_before e.0 key ≡ true) q 0 at → AllWithin (λ e. is_before e.0 key ≡ false) q at (length q) → at < length q → ((d : Key × ℕ) → (get_or q at d).0 ≢ key) → IsNewKey key q
+new_there q key at up before after within other k d lt same =
+    elim (cases_lt k at) [
+      | inl low ↦
+          let early : is_before (get_or q k d).0 key ≡ true = before k d (omega arith) low in
+          absurd (false≢true (sym (not_before_itself key) ∙ subst (λ (x : Key). is_before x key ≡ true) same early))
+      | inr high ↦ elim (cases_eq k at) [
+        | inl here ↦ other d (subst (λ (j : ℕ). (get_or q j d).0 ≡ key) here same)
+        | inr later ↦
+            let early : compare_keys (get_or q at d).0 (get_or q k d).0 ≡ Less = up at k d (omega arith) lt in
+            absurd (false≢true (sym (after at d (omega arith) within) ∙ before_from_less (get_or q at d).0 key (subst (λ (x : Key). compare_keys (get_or q at d).0 x ≡ Less) same early)))
+      ]
+    ]

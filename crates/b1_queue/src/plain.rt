@@ -1,10 +1,11 @@
-ghost use Rattle.std.specs.Prelude.{◌≡◌, ◌≤◌, true, false, length, get_or, AllPairs, None};
+ghost use Rattle.std.specs.Prelude.{◌≡◌, ◌≤◌, true, false, length, get_or, AllPairs, None, Some};
+ghost use Rattle.std.specs.Option.{IfNone, IfSome};
 ghost use Rattle.std.specs.List.{AllWithin};
 ghost use Rattle.std.specs.VecDeque.{deque_len, deque_capacity};
 ghost use Rattle.std.specs.declared.cmp.Ordering.TheVariants.{Less};
 ghost use Rattle.std.proofs.Props.{props};
 ghost use Rattle.b1_model.specs.Keys.{compare_keys};
-ghost use Rattle.b1_queue.specs.Queue.{IsKept, is_before};
+ghost use Rattle.b1_queue.specs.Queue.{IsKept, IsNewKey, is_before, key_of};
 
 use crate::kind::QueueKind;
 use b1_model::{Key, key_cmp};
@@ -71,6 +72,10 @@ impl QueueKind for PlainQueue {
         Some(key)
     }
 
+    fn key(&self, item: usize) -> Option<Key> {
+        key_at(&self.keys, item)
+    }
+
     fn front(&self) -> Option<(Key, usize)> {
         self.entries.front().copied()
     }
@@ -83,6 +88,24 @@ impl QueueKind for PlainQueue {
     }
 
     ghost in_order = { λ q. q.kept.in_order };
+}
+
+impl PlainQueue {
+    /// The item under a key; `None` where there is none. Takes a time of log n.
+    pub fn item(&self, key: &Key) -> Option<usize>
+        ensures some { IfSome result (λ item.
+            key_of item (⟦<PlainQueue as QueueKind>⟧.listed self.now) ≡ Some key.now) }
+        ensures none { IfNone result
+            (IsNewKey key.now (⟦<PlainQueue as QueueKind>⟧.listed self.now)) }
+    {
+        let at = place_of(&self.entries, key);
+        let (found, item) = self.entries.get(at)?;
+        if key_cmp(found, key).is_eq() {
+            Some(*item)
+        } else {
+            None
+        }
+    }
 }
 
 // How many entries stand before a key.
