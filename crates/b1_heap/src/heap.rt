@@ -58,6 +58,11 @@ impl QueueKind for IndexedHeap {
         Some(remove_cell::<Brand>(&mut self.cells, &mut self.places, at, Blank::new(1)).0)
     }
 
+    fn key(&self, item: usize) -> Option<Key> {
+        let at = find_cell(&self.cells, &self.places, item)?;
+        Some(self.cells[at].0)
+    }
+
     fn front(&self) -> Option<(Key, usize)> {
         self.cells.first().copied()
     }

@@ -1,2 +1,3 @@
 pub mod Order
 pub mod Entries
+pub mod Kept

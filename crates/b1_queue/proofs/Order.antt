@@ -1,10 +1,11 @@
 -- The order of keys is total, and equal only at itself.
-use Rattle.std.proofs.Common.{◌≡◌, ◌≢◌, true, false, refl, ap, ◌∙◌, inl, inr, ◌⊎◌}
+use Rattle.std.proofs.Common.{◌≡◌, ◌≢◌, true, false, refl, ap, sym, ◌∙◌, inl, inr, ◌⊎◌}
 use Rattle.std.specs.Cmp.{IsTotalOrder, nat_cmp_total}
-use Rattle.std.specs.Ordering.{is_lt, nat_cmp, ordering_then, ordering_reverse}
+use Rattle.std.specs.Ordering.{is_eq, is_lt, nat_cmp, ordering_then, ordering_reverse}
 use Rattle.std.specs.declared.cmp.Ordering.{Ordering}
 use Rattle.std.specs.declared.cmp.Ordering.TheVariants.{Less, Equal, Greater}
 use Rattle.std.proofs.lemmas.Cmp.{on_total, then_total, tied_itself}
+use Rattle.std.proofs.lemmas.Bool.{false≢true}
 use Rattle.std.proofs.lemmas.Map.Lookups.{exact_unsigned}
 use Rattle.b1_model.specs.Keys.{compare_keys}
 use Rattle.b1_model.specs.declared.naming.Key.{Key}
@@ -57,3 +58,17 @@ not_before a b h = ap is_lt (keys_total.antisymm b a ∙ ap ordering_reverse h)
 
 pub not_before_itself : (a : Key) → is_before a a ≡ false
 not_before_itself a = ap is_lt (tied_itself keys_total a)
+
+equal_is : (o : Ordering) → is_eq o ≡ true → o ≡ Equal
+equal_is Less h = cc
+equal_is Equal h = refl
+equal_is Greater h = cc
+
+-- a test of two keys
+pub same_from_test : (a b : Key) → is_eq (compare_keys a b) ≡ true → a ≡ b
+same_from_test a b h = same_key a b (equal_is (compare_keys a b) h)
+
+pub other_from_test : (a b : Key) → is_eq (compare_keys a b) ≡ false → a ≢ b
+other_from_test a b h same =
+    let tied : compare_keys a b ≡ Equal = ap (compare_keys a) (sym same) ∙ tied_itself keys_total a in
+    false≢true (sym h ∙ ap is_eq tied)

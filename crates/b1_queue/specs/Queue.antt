@@ -1,5 +1,5 @@
 -- What contracts see of a queue: a list of entries, each a key with its item.
-use Rattle.std.specs.Prelude.{◌≡◌, ◌≢◌, ◌==◌, ℕ, ◌<◌, Bool, not, List, ◌∷◌, ◌++◌, filter, find, All, AllPairs, Option, option_map}
+use Rattle.std.specs.Prelude.{◌≡◌, ◌≢◌, ◌==◌, ℕ, ◌+◌, ◌<◌, ◌≤◌, Bool, not, List, ◌∷◌, ◌++◌, length, get_or, filter, find, All, AllPairs, Option, None, option_map}
 use Rattle.std.specs.Ordering.{is_lt}
 use Rattle.std.specs.declared.cmp.Ordering.TheVariants.{Less}
 use Rattle.b1_model.specs.Keys.{compare_keys}
@@ -39,3 +39,9 @@ IsNewKey key q = All (λ e. e.0 ≢ key) q
 -- no entry has this item
 abbrev pub IsNewItem : ℕ → List (Key × ℕ) → Type 0
 IsNewItem item q = All (λ e. e.1 ≢ item) q
+
+-- a queue's list of entries, with each item's key in another list, and room for more
+pub record IsKept (spare len capacity : ℕ) (q : List (Key × ℕ)) (keys : List (Option Key)) : Type 0 where
+  pub in_order : IsQueue (length keys) q
+  pub indexed : (item : ℕ) → get_or keys item None ≡ key_of item q
+  pub fits : spare + len ≤ capacity

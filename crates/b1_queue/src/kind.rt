@@ -57,6 +57,10 @@ pub trait QueueKind: Drop {
         ensures spare { spare self.new ≡ spare self.old + (if is_some result then 1 else 0) }
         ensures room { room self.new ≡ room self.old };
 
+    /// The key of an item; `None` where the item is not there.
+    fn key(&self, item: usize) -> Option<Key>
+        ensures { result ≡ key_of item (listed self.now) };
+
     /// The entry with the least key; `None` where the queue is empty.
     fn front(&self) -> Option<(Key, usize)>
         ensures { result ≡ slice_get (listed self.now) 0 };

@@ -6,10 +6,10 @@ use Rattle.b1_queue.proofs.plain.place_of.Goals as goal
 
 pub returns-clause-before : goal.returns-clause-before
 returns-clause-before c =
-    (IsPartitionPoint-from_clause (λ e. is_before e.0 c.args.key.now) c.args.entries.now _ c.partition_point.ensures.partitioned
-    (searchable c.args.key.now c.args.entries.now c.requires) (λ a r f k. search rules)).0
+    (IsPartitionPoint-from_clause (λ e. is_before e.0 c.args.key.now) c.args.entries.now.items _ c.partition_point.ensures.partitioned
+    (searchable c.args.key.now c.args.entries.now.items c.requires) (λ a r f k. search rules)).0
 
 pub returns-clause-after : goal.returns-clause-after
 returns-clause-after c =
-    (IsPartitionPoint-from_clause (λ e. is_before e.0 c.args.key.now) c.args.entries.now _ c.partition_point.ensures.partitioned
-    (searchable c.args.key.now c.args.entries.now c.requires) (λ a r f k. search rules)).1
+    (IsPartitionPoint-from_clause (λ e. is_before e.0 c.args.key.now) c.args.entries.now.items _ c.partition_point.ensures.partitioned
+    (searchable c.args.key.now c.args.entries.now.items c.requires) (λ a r f k. search rules)).1

@@ -1,9 +1,5 @@
-use Rattle.b1_queue.proofs.Entries.{IsNewKey-without, IsNewItem-without, item_in_room}
+use Rattle.b1_queue.proofs.Entries.{IsNewKey-without, IsNewItem-without}
 use Rattle.b1_queue.proofs.plain.PlainQueueQueueKind.restamp.Goals as goal
-
-pub put-requires-clause-in_room : goal.put-requires-clause-in_room
-put-requires-clause-in_room c =
-    rw c.remove.ensures.room (item_in_room c.args.self.now.room c.args.item c.args.self.now.entries.items c.requires.there c.args.self.now.in_order.in_room)
 
 pub put-requires-clause-new_key : goal.put-requires-clause-new_key
 put-requires-clause-new_key c =
