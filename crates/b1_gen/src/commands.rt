@@ -1,6 +1,6 @@
-ghost use Rattle.std.specs.Prelude.{◌≡◌, ◌+◌, ◌*◌, ◌++◌, ◌<◌, ◌≤◌, ◌^◌, ◌≢◌, ℕ, map, length, vec_len, IfOk, OnOk, IsTrue};
+ghost use Rattle.std.specs.Prelude.{◌≡◌, ◌+◌, ◌*◌, ◌++◌, ◌<◌, ◌≤◌, ◌^◌, ◌≢◌, map, length, vec_len, IfOk, OnOk};
 ghost use Rattle.std.specs.List.{flat_map, range_with_len};
-ghost use Rattle.b1_gen.specs.Generated.{below, peer_count, matches, partners, handle_at, payload_len, payload_of, sending, taking, taken_before, phase_commands, commands_of};
+ghost use Rattle.b1_gen.specs.Generated.{below, peer_count, matches, partners, handle_at, payload_of, taking, taken_before, phase_commands, commands_of};
 
 use crate::numbers::PHASES;
 use b1_model::{Bytes, Command, CommandLists, Commands, Nums, SendCmd};

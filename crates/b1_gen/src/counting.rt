@@ -1,4 +1,4 @@
-ghost use Rattle.std.specs.Prelude.{◌≡◌, ◌+◌, sum_by, IfSome};
+ghost use Rattle.std.specs.Prelude.{◌≡◌, ◌+◌, sum_by};
 ghost use Rattle.b1_gen.specs.Counted.{worth, total, within, HasCounts};
 
 use b1_model::{Answer, Call, Receipt, Record};

@@ -1,4 +1,4 @@
-ghost use Rattle.std.specs.Prelude.{◌≡◌, ◌≢◌, ◌<◌, ℕ};
+ghost use Rattle.std.specs.Prelude.{◌≢◌, ◌<◌, ℕ};
 ghost use Rattle.b1_script.specs.Spelling.{HasSpelling};
 ghost use Rattle.b1_gen.specs.Generated.{generated, opening_of, handle_at, NamesNodeOf};
 

@@ -1,6 +1,6 @@
 ghost use Rattle.std.specs.Prelude.{◌≡◌, ◌≢◌, ℕ, ◌+◌, ◌*◌, ◌^◌, ◌-◌, ◌<◌, ◌≤◌, length, swap, IfSome, IfNone, IsPermutation};
 ghost use Rattle.b1_queue.specs.Queue.{is_before as stands_before};
-ghost use Rattle.b1_heap.specs.Heap.{AreApart, IsHeap, IsIndexed, parent};
+ghost use Rattle.b1_heap.specs.Heap.{AreApart, IsHeap, IsIndexed};
 ghost use Rattle.b1_heap.specs.Sift.{IsLeastChild, MovesAt, RisesAt, SinksAt};
 
 use b1_cost::Steps;

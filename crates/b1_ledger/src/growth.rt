@@ -26,7 +26,9 @@ pub fn any_greater_bound()
 /// Where each peer's stamps rise, a message is what its send's numbers named, by the table of its origin.
 pub fn message_of_a_send()
     ensures by_tables { (ws : List Wire) (r : Record) (stamp q : ℕ) → RisesAt r
-        → message ws r stamp q ≡ option_and_then (message_at ws q (calls_of r q) (slots ws r q)) (sent_at stamp (calls_of r q)) }
+        → message ws r stamp q
+        ≡ option_and_then (message_at ws q (calls_of r q) (slots ws r q))
+        (sent_at stamp (calls_of r q)) }
     ensures of_call { (ws : List Wire) (r : Record) (q k : ℕ) (s : SendCmd) (b : Sent) → RisesAt r
         → slice_get (calls_of r q) k ≡ Some (sent_call s b)
         → message ws r b.stamp q ≡ Some (record {
@@ -89,7 +91,8 @@ pub fn destructions_after_a_call()
 pub fn names_after_a_call()
     ensures { (o : Opening) (r t : Record) (p : ℕ) (c : Call) → Legal o r → Appends r t p c
         → made o.wires t p (calls_len r p)
-        ≡ add_new (epoch_at r p (calls_len r p)) (made o.wires r p (calls_len r p)) (carried_by c.command c.answer) }
+        ≡ add_new (epoch_at r p (calls_len r p)) (made o.wires r p (calls_len r p))
+        (carried_by c.command c.answer) }
 {}
 
 /// What one call of any record changes for the next one of its peer.
@@ -103,11 +106,14 @@ pub fn call_behind_call()
         → epoch_at r q (suc k) ≡ next_epoch (epoch_at r q k) c.answer }
     ensures names { (ws : List Wire) (r : Record) (q k : ℕ) (c : Call)
         → slice_get (calls_of r q) k ≡ Some c
-        → made ws r q k ≡ add_new (epoch_at r q k) (made_in 0 (wired ws q) (take k (calls_of r q))) (carried_by c.command c.answer) }
+        → made ws r q k
+        ≡ add_new (epoch_at r q k) (made_in 0 (wired ws q) (take k (calls_of r q)))
+        (carried_by c.command c.answer) }
     ensures destructions { (ws : List Wire) (r : Record) (q k : ℕ) (c : Call)
         → slice_get (calls_of r q) k ≡ Some c
         → destructions_before ws r q (suc k) ≡ destructions_before ws r q k
-        ++ destruction_by q (made ws r q k) (table ws r q k) (destructions_before ws r q k) c.command c.answer }
+        ++ destruction_by q (made ws r q k) (table ws r q k) (destructions_before ws r q k)
+        c.command c.answer }
 {}
 
 /// Each node that a record's numbers, messages and notices name was made by its owner, in an epoch that the owner

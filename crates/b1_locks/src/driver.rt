@@ -1,4 +1,4 @@
-ghost use Rattle.std.specs.Prelude.{◌≡◌, ◌+◌, ◌<◌, ◌≤◌, length, max, OnOk, OnErr};
+ghost use Rattle.std.specs.Prelude.{◌≡◌, ◌+◌, ◌<◌, length, max, OnOk, OnErr};
 ghost use Rattle.b1_event.specs.Borne.{call_limit};
 ghost use Rattle.b1_rule.specs.Rule.{holding};
 ghost use Rattle.b1_rule.specs.Plays.{resting};

@@ -1,4 +1,4 @@
-ghost use Rattle.std.specs.Prelude.{◌≡◌, ◌<◌, ◌≤◌, true, false, length, IfOk};
+ghost use Rattle.std.specs.Prelude.{◌≡◌, ◌<◌, ◌≤◌, true, false, length};
 ghost use Rattle.b1_model.specs.Script.{commands_of};
 ghost use Rattle.b1_run.specs.Workers.{AreAt, IsAt, AllEnded};
 

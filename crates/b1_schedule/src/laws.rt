@@ -37,7 +37,8 @@ pub fn a_record_shows_its_shortage()
 pub fn a_schedule_has_one_end()
     ensures one { (o : Opening) (lists : List (List Command)) (turns : List ℕ) (r : Record)
         (q : Record) → IsPlay o lists turns r → IsPlay o lists turns q
-        → ((p k : ℕ) (place : Maybe ℕ) → shortage_of r p k place ≡ shortage_of q p k place) → r ≡ q }
+        → ((p k : ℕ) (place : Maybe ℕ) → shortage_of r p k place ≡ shortage_of q p k place)
+        → r ≡ q }
     ensures stalled { (o : Opening) (lists : List (List Command)) (turns : List ℕ) (r : Record)
         (waiting : List ℕ) (q : Record) → IsPlay o lists turns r → IsStall o lists turns waiting q
         → ((p k : ℕ) (place : Maybe ℕ) → shortage_of r p k place ≡ false) → ⊥ }

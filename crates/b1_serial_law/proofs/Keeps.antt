@@ -22,7 +22,7 @@ use Rattle.b1_serial_own.proofs.Waited.{attempt_led}
 use Rattle.b1_serial_own.proofs.Destroy.{destroy_whole}
 use Rattle.b1_serial_own.proofs.Reset.{reset_whole}
 use Rattle.b1_serial_send.proofs.Runs.{runs}
-use Rattle.b1_serial_plays.specs.Commands.{CommandsKeepRest, Keeps, Waits}
+use Rattle.b1_serial_plays.specs.Commands.{CommandsKeepRest, Keeps}
 
 module _ (o : Opening) (opens : IsOpening o) (m : Shortage) (s : State) (bus : Bus) (p : ℕ) (y : Part) (reached : Reached o s) (rest : AtRest o s bus) (is : slice_get bus p ≡ Some y) where
   -- a whole command that leads to rest

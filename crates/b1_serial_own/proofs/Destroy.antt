@@ -37,7 +37,7 @@ use Rattle.b1_legal.proofs.Reached.{reached_right}
 use Rattle.b1_serial_bus.specs.Parts.{Part, Bus, at_peer, called}
 use Rattle.b1_serial_bus.specs.Lives.{destroyed_at}
 use Rattle.b1_serial_bus.specs.Destroy as bus_destroy
-use Rattle.b1_serial_bus.specs.Destroy.{destroy_reasons, destroy_done, destroy_named, after_destroy}
+use Rattle.b1_serial_bus.specs.Destroy.{destroy_reasons, destroy_named, after_destroy}
 use Rattle.b1_serial_bus.specs.Notices.{with_notices}
 use Rattle.b1_serial_bus.specs.Doom.{doom_stamp, with_all_doomed, destroyed}
 use Rattle.b1_serial_bus.specs.Commands.{after_command}

@@ -2,7 +2,7 @@
 use Rattle.std.proofs.Common.{◌≡◌, refl, sym, ap, ◌∙◌, subst, inl, inr, ℕ, ◌≤◌, Bool, true, false, cond, nat_lt, List, [], ◌∷◌, map, Option, Some, None, is_some, option_map, arith}
 use Rattle.b1_model.specs.declared.naming.NodeRef.{NodeRef}
 use Rattle.b1_model.specs.MachineParts.{HandleRecord, same_ref, ref_before, record_of, record_or_none, no_record}
-use Rattle.b1_model.specs.MachineTables.{is_needed, changed, changed_or_made, more_held, less_flight, foreign, unexpected}
+use Rattle.b1_model.specs.MachineTables.{is_needed, changed, changed_or_made, more_held, less_flight, unexpected}
 use Rattle.b1_model.specs.MachineTables as tables
 use Rattle.b1_step.specs.Rights.{Has}
 use Rattle.b1_step.specs.Ordered.{BehindNode, Rising}

@@ -17,7 +17,7 @@ use Rattle.b1_model.specs.Names.{invalid}
 use Rattle.b1_model.specs.MachineParts.{PeerPart, DriverPart, State, same_ref, key_before, is_staged, is_data, record_or_none, node_at, no_node, carried, slots_of}
 use Rattle.b1_model.specs.MachinePool.{published}
 use Rattle.b1_model.specs.MachineTables as tables
-use Rattle.b1_model.specs.MachineTables.{changed, with_node, notice_taken}
+use Rattle.b1_model.specs.MachineTables.{changed, notice_taken}
 use Rattle.b1_model.specs.MachineReceive as machine
 use Rattle.b1_model.specs.MachineReceive.{discards, discarded, slot_arrives, front_by, front_taken, received_part}
 use Rattle.b1_model.specs.MachineDriver.{recv_answer}

@@ -20,7 +20,7 @@ use Rattle.b1_model.specs.MachineParts.{PeerPart, DriverPart, State, is_live, no
 use Rattle.b1_model.specs.MachineTables as tables
 use Rattle.b1_model.specs.MachineTables.{changed, less_held, is_unheld}
 use Rattle.b1_model.specs.MachineReceive as machine
-use Rattle.b1_model.specs.MachineReceive.{dropped, dropped_refs, is_released}
+use Rattle.b1_model.specs.MachineReceive.{dropped, dropped_refs}
 use Rattle.b1_model.specs.MachineDriver.{next_action, refused_at}
 use Rattle.b1_model.specs.MachineTook.{with_facts, turned}
 use Rattle.b1_model.specs.MachineDriver.{Goes, turn}

@@ -23,7 +23,8 @@ pub fn a_small_command_runs_to_rest()
     ensures { (o : Opening) (s : State) (bus : Bus) (p : ℕ) (y : Part) (command : Command)
         (m : Shortage) → IsOpening o → Reached o s → AtRest o s bus → slice_get bus p ≡ Some y
         → is_alone (resolved command y.calls) y ≡ true
-        → (t : State) × RunsWhole o m p command s t × AtRest o t (after_command_of m p command bus) }
+        → (t : State) × RunsWhole o m p command s t
+        × AtRest o t (after_command_of m p command bus) }
 {}
 
 /// A HANDLE_RELEASE, refused or accepted, is run whole by a schedule, and leads from rest to rest: the serial bus then is
@@ -33,7 +34,8 @@ pub fn a_release_runs_to_rest()
         (number : ℕ) (m : Shortage) → IsOpening o → Reached o s → AtRest o s bus
         → slice_get bus p ≡ Some y → y.shut ≡ false
         → resolved command y.calls ≡ cmd.Release number
-        → (t : State) × RunsWhole o m p command s t × AtRest o t (after_command_of m p command bus) }
+        → (t : State) × RunsWhole o m p command s t
+        × AtRest o t (after_command_of m p command bus) }
 {}
 
 /// A RECV, and an AWAIT that doesn't wait, is run whole by a schedule, and leads from rest to rest: the serial bus then is
@@ -63,7 +65,8 @@ pub fn a_destruction_runs_to_rest()
         (numbers : List ℕ) (m : Shortage) → IsOpening o → Reached o s → AtRest o s bus
         → slice_get bus p ≡ Some y → y.shut ≡ false
         → resolved command y.calls ≡ cmd.Destroy numbers
-        → (t : State) × RunsWhole o m p command s t × AtRest o t (after_command_of m p command bus) }
+        → (t : State) × RunsWhole o m p command s t
+        × AtRest o t (after_command_of m p command bus) }
 {}
 
 /// A PEER_RESET with flush, and a PEER_DISCONNECT, refused or accepted, is run whole by a schedule, and leads from rest to
@@ -72,5 +75,6 @@ pub fn a_reset_runs_to_rest()
     ensures { (o : Opening) (s : State) (bus : Bus) (p : ℕ) (y : Part) (command : Command)
         (m : Shortage) → IsOpening o → Reached o s → AtRest o s bus → slice_get bus p ≡ Some y
         → y.shut ≡ false → is_flushing (resolved command y.calls) ≡ true
-        → (t : State) × RunsWhole o m p command s t × AtRest o t (after_command_of m p command bus) }
+        → (t : State) × RunsWhole o m p command s t
+        × AtRest o t (after_command_of m p command bus) }
 {}

@@ -20,7 +20,7 @@ use Rattle.b1_model.specs.declared.events.Outcome.{Outcome}
 use Rattle.b1_model.specs.declared.events.Outcome.TheVariants as out
 use Rattle.b1_model.specs.MachineParts.{PeerPart, DriverPart, State, node_at, is_dying}
 use Rattle.b1_model.specs.MachineSend.{stage_refusal, staged}
-use Rattle.b1_model.specs.MachineDriver.{Turn, Goes, no_ref, node_of_place, phase_action, peer_of, accepted_from, is_place, all_refused, attaching, all_staged, staging, unstaging, place_done}
+use Rattle.b1_model.specs.MachineDriver.{Turn, Goes, no_ref, node_of_place, accepted_from, is_place, all_refused, attaching, all_staged, staging, unstaging, place_done}
 use Rattle.b1_model.specs.MachineDriver as driver
 use Rattle.b1_model.specs.MachineTook.{took, turned, goes_by, is_done, answer_of}
 use Rattle.b1_model.specs.MachineEvents.{user_of, stage_by, stage_event}

@@ -20,7 +20,7 @@ use Rattle.b1_model.specs.MachineParts.{PeerPart, DriverPart, HandleRecord, Slic
 use Rattle.b1_model.specs.MachinePool.{taken}
 use Rattle.b1_model.specs.MachineTables.{without, is_stage, foreign, expected, unexpected, changed, changed_or_made, is_needed, more_flight, less_flight}
 use Rattle.b1_model.specs.MachineSend.{staged, find_stage, unstaged_by, unstaged}
-use Rattle.b1_model.specs.MachineDriver.{Turn, Goes, no_ref, node_of_place, accepted_from, is_place, unstaging}
+use Rattle.b1_model.specs.MachineDriver.{Turn, Goes, no_ref, node_of_place, accepted_from, unstaging}
 use Rattle.b1_model.specs.MachineDriver as driver
 use Rattle.b1_model.specs.MachineTook.{ended}
 use Rattle.b1_schedule.specs.Shortage.{Shortage}
