@@ -2,4 +2,5 @@ mod Rows
 mod StableSort
 mod BusOrder
 mod PeerLemmas
+pub mod HeldLemmas
 pub mod Pools

@@ -5,6 +5,7 @@ pub mod Ledger
 pub mod Legal
 pub mod Script
 pub mod Opening
+pub mod Held
 pub mod MachineParts
 pub mod MachinePool
 pub mod MachineTables
