@@ -26,7 +26,8 @@ impl<'a, R: Wait, G: Gate> Port for BusPort<'a, R, G> {
     }
 
     fn send(&mut self, cmd: SendCmd) -> Result<Sent, Refused> {
-        self.driver.send(self.rt, self.alloc, self.bus, self.gate, cmd)
+        self.driver
+            .send(self.rt, self.alloc, self.bus, self.gate, cmd)
     }
 
     fn recv(&mut self) -> Result<&Receipt, Reason> {
@@ -46,6 +47,7 @@ impl<'a, R: Wait, G: Gate> Port for BusPort<'a, R, G> {
     }
 
     fn slice_release(&mut self, offset: u64) -> Result<(), Reason> {
-        self.driver.slice_release(self.rt, self.bus, self.gate, offset)
+        self.driver
+            .slice_release(self.rt, self.bus, self.gate, offset)
     }
 }

@@ -3,3 +3,4 @@ pub mod LineRuns
 pub mod Gathering
 pub mod Faults
 pub mod Places
+pub mod Fits

@@ -5,9 +5,9 @@ mod answers;
 mod drafts;
 mod parsing;
 
-ghost use Rattle.std.specs.Prelude.{◌≡◌, ◌++◌, ◌+◌, ◌-◌, ℕ, List, IfOk, OnOk, length, string_bytes};
+ghost use Rattle.std.specs.Prelude.{◌≡◌, ◌++◌, ◌+◌, ◌-◌, ℕ, All, List, IfOk, OnOk, length, string_bytes};
 ghost use Rattle.b1_model.specs.declared.records.Record.{Record};
-ghost use Rattle.b1_report.specs.Parsing.{HasRecordFields, IsReport, IsFault};
+ghost use Rattle.b1_report.specs.Parsing.{HasCallFields, HasPeerFields, HasRecordFields, IsReport, IsFault};
 ghost use Rattle.b1_report.specs.Report.{call_text, calls_text, peer_text, peers_text, report_text, HasSpelling, AllSpelled, EachSpelled};
 
 use answers::write_answer;
@@ -33,8 +33,7 @@ pub fn print(alloc: Global, rec: &Record) -> Result<Vec<u8>, AllocError>
     requires { EachSpelled rec.now.peers }
     ensures text { IfOk result (λ text. text.items ≡ report_text rec.now) }
     // The text is a report, which is read again as this record.
-    ensures report { IfOk result (λ text. HasRecordFields rec.now
-        → IsReport (length rec.now.peers) text.items rec.now) }
+    ensures report { IfOk result (λ text. IsReport (length rec.now.peers) text.items rec.now) }
 {
     let mut out = String::new(alloc);
     write_record(&mut out, rec)?;
@@ -43,7 +42,9 @@ pub fn print(alloc: Global, rec: &Record) -> Result<Vec<u8>, AllocError>
 
 fn write_record(out: &mut String, rec: &Record) -> Result<(), AllocError>
     requires { EachSpelled rec.now.peers }
-    ensures { OnOk result (string_bytes out.new ≡ string_bytes out.old ++ report_text rec.now) }
+    ensures text { OnOk result (string_bytes out.new ≡ string_bytes out.old
+        ++ report_text rec.now) }
+    ensures fits { OnOk result (HasRecordFields rec.now) }
 {
     write!(out, "bus1 report 1\npeers {}\n", rec.peers.len())?;
     write_peers(out, rec.peers.as_slice())?;
@@ -52,7 +53,9 @@ fn write_record(out: &mut String, rec: &Record) -> Result<(), AllocError>
 
 fn write_peers(out: &mut String, peers: &[PeerCalls]) -> Result<(), AllocError>
     requires { EachSpelled peers.now }
-    ensures { OnOk result (string_bytes out.new ≡ string_bytes out.old ++ peers_text peers.now) }
+    ensures text { OnOk result (string_bytes out.new ≡ string_bytes out.old
+        ++ peers_text peers.now) }
+    ensures fits { OnOk result (All HasPeerFields peers.now) }
 {
     for (number, peer) in peers.iter().enumerate() {
         write_peer(out, number, peer)?;
@@ -62,20 +65,21 @@ fn write_peers(out: &mut String, peers: &[PeerCalls]) -> Result<(), AllocError>
 
 fn write_peer(out: &mut String, number: usize, peer: &PeerCalls) -> Result<(), AllocError>
     requires { AllSpelled peer.now.calls }
-    ensures { OnOk result (string_bytes out.new ≡ string_bytes out.old
+    ensures text { OnOk result (string_bytes out.new ≡ string_bytes out.old
         ++ peer_text (number, peer.now)) }
+    ensures fits { OnOk result (HasPeerFields peer.now) }
 {
-    write!(
-        out,
-        "peer {} epoch {} clock {}\n",
-        number, peer.epoch, peer.clock
-    )?;
+    let epoch = peer.epoch;
+    let clock = peer.clock;
+    write!(out, "peer {number} epoch {epoch} clock {clock}\n")?;
     write_calls(out, &peer.calls)
 }
 
 fn write_calls(out: &mut String, calls: &Calls) -> Result<(), AllocError>
     requires { AllSpelled calls.now }
-    ensures { OnOk result (string_bytes out.new ≡ string_bytes out.old ++ calls_text calls.now) }
+    ensures text { OnOk result (string_bytes out.new ≡ string_bytes out.old
+        ++ calls_text calls.now) }
+    ensures fits { OnOk result (All HasCallFields calls.now) }
 {
     for call in calls.as_slice() {
         write_call(out, call)?;
@@ -85,7 +89,9 @@ fn write_calls(out: &mut String, calls: &Calls) -> Result<(), AllocError>
 
 fn write_call(out: &mut String, call: &Call) -> Result<(), AllocError>
     requires { HasSpelling call.now }
-    ensures { OnOk result (string_bytes out.new ≡ string_bytes out.old ++ call_text call.now) }
+    ensures text { OnOk result (string_bytes out.new ≡ string_bytes out.old
+        ++ call_text call.now) }
+    ensures fits { OnOk result (HasCallFields call.now) }
 {
     write_command(out, Form::Report, &call.command)?;
     out.push_str(" = ")?;

@@ -32,7 +32,7 @@ pub record IsReport (s : Script) (text : List ℕ) : Type 0 where
   -- a script that stalls on the serial bus with ample memory ends only by want of memory
   pub unstalled : s.turns ≡ [] → StallsAmple s.opening s.commands → IsAmple outcome → ⊥
   pub text_is : text ≡ report_text outcome
-  pub again : reports.HasRecordFields outcome → reports.IsReport (length outcome.peers) text outcome
+  pub again : reports.IsReport (length outcome.peers) text outcome
 
 -- the text tells that the script's schedule stalls where memory is wanting nowhere: which peers wait in the stuck state,
 -- and the report of its legal record, in which each peer's calls are the first of its commands; without turns the serial bus

@@ -1,3 +1,4 @@
+pub mod Fits
 pub mod Amongs
 pub mod Digits
 pub mod Languages

@@ -1,16 +1,19 @@
-ghost use Rattle.std.specs.Prelude.{◌≡◌, ◌++◌, ◌<◌, OnOk, string_bytes};
-ghost use Rattle.b1_text_words.specs.Commands.{command_text_in, send_text_in, HasWords};
+ghost use Rattle.std.specs.Prelude.{◌≡◌, ◌++◌, ◌-◌, ◌<◌, ◌≤◌, ◌^◌, All, OnOk, codes, flat_map, length, string_bytes};
+ghost use Rattle.b1_text_words.specs.Commands.{command_text_in, limits_text, send_text_in, AreLimits, HasWords, IsCommand, IsSend};
+ghost use Rattle.b1_text_words.specs.declared.items.Form.TheVariants.{Report};
 ghost use Rattle.b1_text_words.specs.Items.{item_text};
 ghost use Rattle.b1_text_words.specs.Numbers.{number_text, script_handle_text, script_offset_text, hex_digit, hex_text, list_text};
 
 use crate::items::{Form, Item};
-use b1_model::{Command, INVALID, SendCmd};
+use b1_model::{Command, INVALID, Limits, SendCmd};
 use std::alloc::AllocError;
 use std::fmt::Write;
 
 /// Appends a number of a kind. An error is want of memory.
 pub fn write_item(out: &mut String, item: Item, number: u64) -> Result<(), AllocError>
-    ensures { OnOk result (string_bytes out.new ≡ string_bytes out.old ++ item_text item number) }
+    ensures text { OnOk result (string_bytes out.new ≡ string_bytes out.old
+        ++ item_text item number) }
+    ensures fits { number < 2 ^ 64 }
 {
     match item {
         Item::UpTo(_) => write!(out, "{number}"),
@@ -62,14 +65,25 @@ fn write_offset(out: &mut String, number: u64) -> Result<(), AllocError>
 
 /// Appends a list of numbers of a kind. An error is want of memory.
 pub fn write_list(out: &mut String, item: Item, numbers: &[u64]) -> Result<(), AllocError>
-    ensures { OnOk result (string_bytes out.new ≡ string_bytes out.old
+    ensures text { OnOk result (string_bytes out.new ≡ string_bytes out.old
         ++ list_text (item_text item) numbers.now) }
+    ensures fits { OnOk result (All (λ n. n < 2 ^ 64) numbers.now) }
+    ensures few { length numbers.now ≤ 2 ^ 64 - 1 }
 {
     let [first, rest @ ..] = numbers else {
         return out.push_str("-");
     };
     write_item(out, item, *first)?;
-    for number in rest {
+    write_more(out, item, rest)
+}
+
+/// Appends further numbers of a list, each behind a comma.
+fn write_more(out: &mut String, item: Item, numbers: &[u64]) -> Result<(), AllocError>
+    ensures text { OnOk result (string_bytes out.new ≡ string_bytes out.old
+        ++ flat_map (λ n. codes "," ++ item_text item n) numbers.now) }
+    ensures fits { OnOk result (All (λ n. n < 2 ^ 64) numbers.now) }
+{
+    for number in numbers {
         out.push_str(",")?;
         write_item(out, item, *number)?;
     }
@@ -78,7 +92,10 @@ pub fn write_list(out: &mut String, item: Item, numbers: &[u64]) -> Result<(), A
 
 /// Appends bytes as lower-case pairs of hexadecimal digits. An error is want of memory.
 pub fn write_bytes(out: &mut String, bytes: &[u8]) -> Result<(), AllocError>
-    ensures { OnOk result (string_bytes out.new ≡ string_bytes out.old ++ hex_text bytes.now) }
+    ensures text { OnOk result (string_bytes out.new ≡ string_bytes out.old
+        ++ hex_text bytes.now) }
+    ensures fits { OnOk result (All (λ b. b < 256) bytes.now) }
+    ensures few { length bytes.now ≤ 2 ^ 64 - 1 }
 {
     if bytes.is_empty() {
         return out.push_str("-");
@@ -103,19 +120,21 @@ fn digit(value: u8) -> char
 }
 
 /// Appends a command of this form, without a line feed. An error is want of memory.
+#[tactic(auto, using(crate::proofs::Fits::are_items, crate::proofs::Fits::are_bytes))]
 pub fn write_command(out: &mut String, form: Form, command: &Command) -> Result<(), AllocError>
     requires { HasWords form command.now }
-    ensures { OnOk result (string_bytes out.new ≡ string_bytes out.old
+    ensures text { OnOk result (string_bytes out.new ≡ string_bytes out.old
         ++ command_text_in form command.now) }
+    // Its numbers fit the fields that hold them.
+    ensures fits { form ≡ Report → OnOk result (IsCommand Report command.now) }
 {
     match command {
         Command::Disconnect => out.push_str("disconnect"),
         Command::Query => out.push_str("query"),
-        Command::Reset { limits } => write!(
-            out,
-            "reset {} {} {}",
-            limits.entries, limits.bytes, limits.handles
-        ),
+        Command::Reset { limits } => {
+            out.push_str("reset ")?;
+            write_limits(out, *limits)
+        }
         Command::Limit { .. } => unreachable!(),
         Command::Release { number } => {
             out.push_str("release ")?;
@@ -135,9 +154,23 @@ pub fn write_command(out: &mut String, form: Form, command: &Command) -> Result<
     }
 }
 
+fn write_limits(out: &mut String, limits: Limits) -> Result<(), AllocError>
+    ensures text { OnOk result (string_bytes out.new ≡ string_bytes out.old
+        ++ limits_text limits) }
+    ensures fits { AreLimits limits }
+{
+    write!(
+        out,
+        "{} {} {}",
+        limits.entries, limits.bytes, limits.handles
+    )
+}
+
+#[tactic(auto, using(crate::proofs::Fits::are_items, crate::proofs::Fits::are_bytes))]
 fn write_send(out: &mut String, form: Form, send: &SendCmd) -> Result<(), AllocError>
-    ensures { OnOk result (string_bytes out.new ≡ string_bytes out.old
+    ensures text { OnOk result (string_bytes out.new ≡ string_bytes out.old
         ++ send_text_in form send.now) }
+    ensures fits { OnOk result (IsSend Report send.now) }
 {
     out.push_str("send ")?;
     out.push_str(if send.go_on { "1 to " } else { "0 to " })?;

@@ -1,9 +1,0 @@
--- What is written so far: the first, and each further one behind a comma.
-use Rattle.std.proofs.Common.{◌≡◌, ◌++◌, string_bytes, codes, take}
-use Rattle.std.specs.List.{flat_map}
-use Rattle.b1_report_lines.specs.Answers.{place_text}
-use Rattle.b1_report.proofs.answers.write_places.Given as goal
-
-abbrev pub invariant-loop-place : goal.invariant-loop-place
-invariant-loop-place l =
-    string_bytes l.out ≡ string_bytes l.initial.out ++ flat_map (λ n. codes "," ++ place_text n) (take l.place-index l.rest)
