@@ -21,7 +21,7 @@ fn plain(user: u32) -> PeerSpec {
 }
 
 // Two plain peers, of which the first holds a node of the second, as 2.
-fn two_plain(alloc: Global) -> Result<Opening, AllocError> {
+pub(crate) fn two_plain(alloc: Global) -> Result<Opening, AllocError> {
     let wire = Wire {
         from: 1,
         to: 0,
@@ -35,7 +35,7 @@ fn two_plain(alloc: Global) -> Result<Opening, AllocError> {
 }
 
 // A SEND of two bytes to 2.
-fn hi(alloc: Global) -> Result<SendCmd, AllocError> {
+pub(crate) fn hi(alloc: Global) -> Result<SendCmd, AllocError> {
     Ok(SendCmd {
         go_on: false,
         to: Nums::from_slice(alloc, &[2])?,
