@@ -16,13 +16,6 @@ module _ {X : Type 0} where
   pub AllPairs-nil : (R : X → X → Type 0) → AllPairs R []
   AllPairs-nil R i j d lt within = absurd (omega arith)
 
-  pub position_none : (p : X → Bool) (xs : List X) → position p xs ≡ None → All (λ x. p x ≡ false) xs
-  position_none p xs none k d lt =
-      elim (cases_lt (position_or_len p xs) (length xs)) [
-        | inl short ↦ let e = lt-ltb (position_or_len p xs) (length xs) short in let f = rw e at none in cc
-        | inr long ↦ fails_before_first p xs k d (omega arith)
-      ]
-
   pub find_none : (p : X → Bool) (xs : List X) → All (λ x. p x ≡ false) xs → find p xs ≡ None
   find_none p [] h = refl
   find_none p (x ∷ xs) h =
