@@ -1,10 +1,10 @@
 -- A record that changes, by the place at which it stands.
-use Rattle.std.proofs.Common.{◌≡◌, ℕ, suc, zero, ◌<◌, true, false, List, [], ◌∷◌, length, get_or, set, refl, ap, sym, ◌∙◌, arith, inl, inr, Option, Some, None}
+use Rattle.std.proofs.Common.{◌≡◌, ℕ, suc, zero, ◌<◌, true, false, List, [], ◌∷◌, length, get_or, set, refl, ap, sym, ◌∙◌, arith, inl, inr, Some, None}
 use Rattle.std.specs.Prelude.{All, insert, remove}
 use Rattle.std.proofs.lemmas.List.{get_or-set_same, take-set, drop-set-lt}
 use Rattle.std.proofs.lemmas.Bool.{cases_Bool}
 use Rattle.b1_model.specs.declared.naming.NodeRef.{NodeRef}
-use Rattle.b1_model.specs.MachineParts.{HandleRecord, no_record, same_ref, ref_before, record_of, record_or_none}
+use Rattle.b1_model.specs.MachineParts.{HandleRecord, no_record, same_ref, ref_before, record_of}
 use Rattle.b1_model.specs.MachineTables.{is_needed, changed, changed_or_made}
 use Rattle.b1_handles.proofs.Places.{settled, is_from, IsPlaceFor}
 use Rattle.b1_handles.proofs.ListLemmas.{find_first, find_none}
