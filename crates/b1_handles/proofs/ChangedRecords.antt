@@ -1,15 +1,13 @@
 -- A record that changes, by the place at which it stands.
-use Rattle.std.proofs.Common.{◌≡◌, ℕ, suc, zero, ◌<◌, true, false, List, [], ◌∷◌, length, get_or, set, refl, ap, sym, ◌∙◌, arith, inl, inr, Option, Some, None}
-use Rattle.std.specs.Prelude.{All, position, insert, remove, nat_lt}
+use Rattle.std.proofs.Common.{◌≡◌, ℕ, suc, zero, ◌<◌, true, false, List, [], ◌∷◌, length, get_or, set, refl, ap, sym, ◌∙◌, arith, inl, inr, Some, None}
+use Rattle.std.specs.Prelude.{All, insert, remove}
 use Rattle.std.proofs.lemmas.List.{get_or-set_same, take-set, drop-set-lt}
-use Rattle.std.proofs.lemmas.List.Elements.{All-head, All-tail}
-use Rattle.std.proofs.lemmas.List.Quantifiers.{position-Some}
-use Rattle.std.proofs.lemmas.Bool.{cases_Bool, lt-ltb}
+use Rattle.std.proofs.lemmas.Bool.{cases_Bool}
 use Rattle.b1_model.specs.declared.naming.NodeRef.{NodeRef}
-use Rattle.b1_model.specs.MachineParts.{HandleRecord, no_record, same_ref, ref_before, record_of, record_or_none}
+use Rattle.b1_model.specs.MachineParts.{HandleRecord, no_record, same_ref, ref_before, record_of}
 use Rattle.b1_model.specs.MachineTables.{is_needed, changed, changed_or_made}
-use Rattle.b1_handles.specs.Handles.{settled, is_from, IsPlaceFor}
-use Rattle.b1_handles.proofs.ListLemmas.{find_first, find_none, position_none}
+use Rattle.b1_handles.proofs.Places.{settled, is_from, IsPlaceFor}
+use Rattle.b1_handles.proofs.ListLemmas.{find_first, find_none}
 
 -- the place of a node's record
 pub record IsPlace (node : NodeRef) (records : List HandleRecord) (place : ℕ) : Type 0 where
@@ -44,47 +42,10 @@ module _ (node : NodeRef) (f : HandleRecord → HandleRecord) where
         | inr gone ↦ rw gone (remove-set records i y ∙ changed_gone records i x at (ap is_needed (sym now) ∙ gone))
       ])
 
-  pub changed_set : (records : List HandleRecord) (i : ℕ) (x y : HandleRecord) → IsPlace node records i → x ≡ get_or records i x → y ≡ f x → is_needed (f x) ≡ true → set records i y ≡ changed node f records
-  changed_set records i x y at read is needed =
-      ap (set records i) (is ∙ ap f read) ∙ changed_kept records i x at (ap is_needed (sym (ap f read)) ∙ needed)
-
-  pub changed-absent : (records : List HandleRecord) → All (λ h. same_ref h.node node ≡ false) records → changed node f records ≡ records
-  changed-absent [] none = refl
-  changed-absent (h ∷ rest) none =
-      rw (All-head (λ g. same_ref g.node node ≡ false) h rest none) (ap (λ hs. h ∷ hs) (changed-absent rest (All-tail (λ g. same_ref g.node node ≡ false) h rest none)))
-
--- a held node's record is needed, and so is one with a notice queued
-pub held_is_needed : (h : HandleRecord) → 0 < h.held → is_needed h ≡ true
-held_is_needed h held = rw (lt-ltb 0 h.held held) refl
-
-pub notice_is_needed : (h : HandleRecord) → h.notice ≡ true → is_needed h ≡ true
-notice_is_needed h notice =
-    rw notice
-    (elim (cases_Bool (nat_lt 0 h.held)) [
-      | inl held ↦ rw held refl
-      | inr free ↦ rw free (elim (cases_Bool (nat_lt 0 h.flight)) [ inl some_carry ↦ rw some_carry refl | inr none_carries ↦ rw none_carries refl ])
-    ])
-
--- what the search for a node's record answers
-pub place_from : (node : NodeRef) (read records : List HandleRecord) (i : ℕ) → read ≡ records → ◌≡◌ {A = Option ℕ} (Some i) (position (λ h. same_ref h.node node) read) → IsPlace node records i
-place_from node read records i same found =
-    let at : position (λ (h : HandleRecord). same_ref h.node node) records ≡ Some i = ap (position (λ (h : HandleRecord). same_ref h.node node)) (sym same) ∙ sym found in
-    record {
-      within = (position-Some (λ (h : HandleRecord). same_ref h.node node) records i (no_record node) at).0;
-      here = λ d. (position-Some (λ (h : HandleRecord). same_ref h.node node) records i d at).1;
-      first = λ k d lt. (position-Some (λ (h : HandleRecord). same_ref h.node node) records i d at).2 k lt;
-    }
-
-pub none_from : (node : NodeRef) (read records : List HandleRecord) → read ≡ records → position (λ h. same_ref h.node node) read ≡ None → All (λ h. same_ref h.node node ≡ false) records
-none_from node read records same none = position_none (λ h. same_ref h.node node) records (ap (position (λ (h : HandleRecord). same_ref h.node node)) (sym same) ∙ none)
-
 -- the node's record
 pub record_of-place : (node : NodeRef) (records : List HandleRecord) (i : ℕ) (x : HandleRecord) → IsPlace node records i → x ≡ get_or records i x → record_of node records ≡ Some x
 record_of-place node records i x at read =
     find_first (λ h. same_ref h.node node) records i x at.within (λ k lt. at.first k x lt) (at.here x) ∙ ap (λ (h : HandleRecord). Some h) (sym read)
-
-pub record_or_none-place : (node : NodeRef) (records : List HandleRecord) (i : ℕ) (x : HandleRecord) → IsPlace node records i → x ≡ get_or records i x → record_or_none node records ≡ x
-record_or_none-place node records i x at read = ap (λ (o : Option HandleRecord). elim o [ None ↦ no_record node | Some h ↦ h ]) (record_of-place node records i x at read)
 
 pub record_of-absent : (node : NodeRef) (records : List HandleRecord) → All (λ h. same_ref h.node node ≡ false) records → record_of node records ≡ None
 record_of-absent node records none = find_none (λ h. same_ref h.node node) records none

@@ -1,131 +1,154 @@
--- What a flush gives next.
-use Rattle.std.proofs.Common.{◌≡◌, ◌≢◌, ◌==◌, ℕ, ◌+◌, ◌/◌, ◌<◌, ◌≤◌, Bool, true, false, not, List, [], ◌∷◌, length, get_or, refl, ap, sym, ◌∙◌, arith, inl, inr, Option, Some, None}
-use Rattle.std.specs.Prelude.{remove, nat_lt}
+-- What a flush gives next, and what it leaves.
+use Rattle.std.proofs.Common.{◌≡◌, ◌≢◌, ◌==◌, ℕ, ◌-◌, ◌<◌, ◌≤◌, false, not, List, [], ◌∷◌, length, get_or, set, refl, ap, sym, subst, ◌∙◌, arith, inl, inr, Option, Some, None}
+use Rattle.std.specs.Prelude.{find, remove}
 use Rattle.std.specs.Option.{IfSome}
-use Rattle.std.proofs.lemmas.List.{get_or_default}
-use Rattle.std.proofs.lemmas.Bool.{cases_Bool, cases_eq, cases_lt, eq-eqb, ne_eqb, ltb-true, ltb-false}
+use Rattle.std.proofs.lemmas.List.{get_or_default, get_or-set_other, length-set}
+use Rattle.std.proofs.lemmas.List.Elements.{All-nil}
+use Rattle.std.proofs.lemmas.Bool.{cases_eq, cases_lt, ne_eqb}
+use Rattle.b1_model.specs.declared.naming.NodeRef.{NodeRef}
 use Rattle.b1_model.specs.MachineParts.{HandleRecord, same_ref}
-use Rattle.b1_model.specs.MachineTables.{is_number, next_number}
+use Rattle.b1_model.specs.MachineTables.{is_number, held_node, next_number}
 use Rattle.b1_model.specs.MachineDestroy.{held_item, held_items}
-use Rattle.b1_handles.specs.declared.least.Least.{Least}
-use Rattle.b1_handles.specs.Handles.{IsSound, IsGivenNumber, without_node}
-use Rattle.b1_handles.specs.Least.{IsLeast, lesser}
-use Rattle.b1_handles.proofs.ListLemmas.{find_none, find_first, find-remove, find-remove_none, filter_but_one, filter_map_first, filter_map_none}
-use Rattle.b1_handles.proofs.Sound.{before_itself, before_other, same_itself}
+use Rattle.b1_handles.specs.declared.numbers.Named.{Named}
+use Rattle.b1_handles.specs.Handles.{IsSound, without_node}
+use Rattle.b1_handles.specs.Kept.{IsKept, IsNamed}
+use Rattle.b1_handles.specs.Numbers.{EndsFirst, name_at}
+use Rattle.b1_handles.proofs.ListLemmas.{find-remove, find-remove_none, filter_but_one, filter_map_first, filter_map_none}
+use Rattle.b1_handles.proofs.Order.{same_before, same_is}
+use Rattle.b1_handles.proofs.Names.{name_none_beyond, name_set}
+use Rattle.b1_handles.proofs.Sound.{All-remove, IsSound-nil, IsSound-remove}
+use Rattle.b1_handles.proofs.Soundness.{Stands, stands}
+use Rattle.b1_handles.proofs.Holding.{HasNumber, HasUnder, find_none_from, flights-remove, number_other, under_number}
 
--- one more record
-all_weaker : (o : Option ℕ) (m n : ℕ) → IfSome o (λ k. m ≤ k) → n < m → IfSome o (λ k. n ≤ k)
-all_weaker None m n all less = tt
-all_weaker (Some k) m n all less = omega arith
+abbrev node_of : Option HandleRecord → Option NodeRef
+node_of o = elim o [ None ↦ None | Some h ↦ Some h.node ]
 
-pub more : (records : List HandleRecord) (i : ℕ) (least : Option Least) (o : Option ℕ) → ((d : HandleRecord) → (get_or records i d).number ≡ o) → IsLeast records i least → IsLeast records (i + 1) (lesser least i o)
-more records i None None read so_far = λ k d lt. elim (cases_eq k i) [ inl same ↦ rw same (read d) | inr less ↦ so_far k d (omega arith) ]
-more records i (Some l) None read so_far = (
-  omega (arith, so_far.0),
-  so_far.1,
-  λ k d lt. elim (cases_eq k i) [ inl same ↦ rw (same, read d) tt | inr less ↦ so_far.2 k d (omega arith) ],
-)
-more records i None (Some n) read so_far = (
-  omega arith,
-  read,
-  λ k d lt. elim (cases_eq k i) [ inl same ↦ rw (same, read d) (omega arith) | inr less ↦ rw (so_far k d (omega arith)) tt ],
-)
-more records i (Some l) (Some n) read so_far =
-    elim (cases_Bool (nat_lt n l.number)) [
-      | inl less ↦
-          rw less (
-            omega arith,
-            read,
-            λ k d lt. elim (cases_eq k i) [
-              | inl same ↦ rw (same, read d) (omega arith)
-              | inr before ↦ all_weaker (get_or records k d).number l.number n (so_far.2 k d (omega arith)) (omega (arith, ltb-true n l.number less))
-            ],
-          )
-      | inr not_less ↦
-          rw not_less (
-            omega (arith, so_far.0),
-            so_far.1,
-            λ k d lt. elim (cases_eq k i) [
-              | inl same ↦ rw (same, read d) (ltb-false n l.number not_less)
-              | inr before ↦ so_far.2 k d (omega arith)
-            ],
-          )
-    ]
+abbrev item_of : Option HandleRecord → Option (List (NodeRef × ℕ))
+item_of o = elim o [ None ↦ None | Some h ↦ Some ((h.node, h.held) ∷ []) ]
 
-pub none_yet : (records : List HandleRecord) → IsLeast records 0 None
-none_yet records = λ k d lt. absurd (omega arith)
+-- ---- no node is held
+module _ (names : List (Option NodeRef)) (records : List HandleRecord) (named : IsNamed names records) (none : (k : ℕ) → name_at names k ≡ None) where
+  pub flush_none : held_items (length names) records ≡ []
+  flush_none =
+      filter_map_none (λ g. held_item records (next_number g)) 0 (length names)
+      (λ g. ap item_of (find_none_from (next_number g) records (sym (named g) ∙ none g)))
 
--- ---- what a number finds
-abbrev has : Option ℕ → ℕ → Bool
-has o m = elim o [ None ↦ false | Some n ↦ n == m ]
+pub held_items-nil : (given : ℕ) → held_items given [] ≡ []
+held_items-nil given = filter_map_none (λ g. held_item [] (next_number g)) 0 given (λ g. refl)
 
-has_above : (o : Option ℕ) (m n : ℕ) → IfSome o (λ k. n ≤ k) → m < n → has o m ≡ false
-has_above None m n all less = refl
-has_above (Some k) m n all less = ne_eqb k m (λ same. absurd (omega arith))
+pub kept-none : (names later : List (Option NodeRef)) (spare : ℕ) → later ≡ names → ((k : ℕ) → name_at names k ≡ None) → IsKept [] later 0 spare
+kept-none names later spare same none = record {
+  sound = IsSound-nil (length later);
+  held = All-nil HasNumber;
+  named = λ k. ap (λ (ns : List (Option NodeRef)). name_at ns k) same ∙ none k;
+  counted = refl;
+  room = omega arith;
+}
 
-has_other : (o : Option ℕ) (m : ℕ) → (o ≡ Some m → ⊥) → has o m ≡ false
-has_other None m other = refl
-has_other (Some n) m other = ne_eqb n m (λ same. other (ap (λ (k : ℕ). Some k) same))
+-- ---- the node under the first number
+module _ (records : List HandleRecord) (names later : List (Option NodeRef)) (flights spare more : ℕ) (k : IsKept records names flights spare) (first : Named) (ends : EndsFirst names (Some first) later) where
+  pub under : HasUnder (next_number first.place) first.node records
+  under = under_number (next_number first.place) first.node records k.sound.ordered (sym (k.named first.place) ∙ ends.0)
 
-has_it : (o : Option ℕ) (m : ℕ) → o ≡ Some m → has o m ≡ true
-has_it o m is = rw is (eq-eqb m m refl)
+  abbrev pub x : HandleRecord
+  x = under.one
 
-not_first : (o : Option ℕ) (m : ℕ) → IfSome o (λ n. ◌≡◌ {A = Option ℕ} (Some m) (Some n) → ⊥) → o ≡ Some m → ⊥
-not_first None m other is = cc
-not_first (Some n) m other is = other (sym is)
+  abbrev pub s : Stands first.node records x
+  s = stands first.node records x under.found
 
-some_same : {m n : ℕ} → ◌≡◌ {A = Option ℕ} (Some m) (Some n) → m ≡ n
-some_same e = cc
+  place_given : first.place < length names
+  place_given =
+      elim (cases_lt first.place (length names)) [
+        | inl low ↦ low
+        | inr high ↦ let e = sym (name_none_beyond names first.place high) ∙ ends.0 in cc
+      ]
 
-module _ (given : ℕ) (records : List HandleRecord) where
-  pub flush_none : IsLeast records (length records) None → held_items given records ≡ []
-  flush_none none =
-      filter_map_none (λ g. held_item records (next_number g)) 0 given
-      (λ g. ap (λ (o : Option HandleRecord). elim o [ None ↦ None | Some h ↦ Some ((h.node, h.held) ∷ []) ])
-      (find_none (is_number (next_number g)) records (λ k d lt. has_other (get_or records k d).number (next_number g) (λ is. let e = sym (none k d lt) ∙ is in cc))))
+  read_is : (d : HandleRecord) → x ≡ get_or records s.place d
+  read_is d = s.read ∙ get_or_default records s.place x d s.at.within
 
-  module _ (l : Least) (x : HandleRecord) (sound : IsSound given records) (least : IsLeast records (length records) (Some l)) (read : x ≡ get_or records l.place x) where
-    node_is : (d : HandleRecord) → x.node ≡ (get_or records l.place d).node
-    node_is d = ap (λ (h : HandleRecord). h.node) (read ∙ get_or_default records l.place x d least.0)
+  other_node : (j : ℕ) (d : HandleRecord) → j < length records → j ≢ s.place → same_ref (get_or records j d).node first.node ≡ false
+  other_node j d lt ne =
+      elim (cases_lt j s.place) [
+        | inl low ↦ s.at.first j d low
+        | inr high ↦ same_before first.node (get_or records s.place d).node (get_or records j d).node (s.at.here d) (k.sound.ordered s.place j d (omega arith) lt)
+      ]
 
-    given_is : IsGivenNumber given l.number
-    given_is = rw (least.1 x) at (sound.numbered l.place x least.0)
+  pub removed_is : remove records s.place ≡ without_node first.node records
+  removed_is =
+      sym (filter_but_one (λ h. not (same_ref h.node first.node)) records s.place s.at.within
+      (λ j d lt ne. ap not (other_node j d lt ne))
+      (λ d. ap not (s.at.here d)))
 
-    first_is : next_number (l.number / 4) ≡ l.number
-    first_is = omega (arith, given_is.form)
+  other_number : (j : ℕ) (d : HandleRecord) → j < length records → j ≢ s.place → is_number (next_number first.place) (get_or records j d) ≡ false
+  other_number j d lt ne =
+      elim (cases_lt j s.place) [
+        | inl low ↦ behind (get_or records j d).number (get_or records s.place d).number (k.sound.distinct j s.place d low s.at.within) (sym (ap (λ (h : HandleRecord). h.number) (read_is d)) ∙ under.number)
+        | inr high ↦ before (get_or records s.place d).number (get_or records j d).number (k.sound.distinct s.place j d (omega arith) lt) (sym (ap (λ (h : HandleRecord). h.number) (read_is d)) ∙ under.number)
+      ]
+    where
+      behind : (o p : Option ℕ) → IfSome o (λ n. p ≢ Some n) → p ≡ Some (next_number first.place) → elim o [ None ↦ false | Some n ↦ n == next_number first.place ] ≡ false
+      behind None p differs is = refl
+      behind (Some n) p differs is = ne_eqb n (next_number first.place) (λ e. differs (is ∙ ap (λ (m : ℕ). Some m) (sym e)))
 
-    other_than : (k : ℕ) (d : HandleRecord) → k < length records → k ≢ l.place → is_number l.number (get_or records k d) ≡ false
-    other_than k d lt ne =
-        has_other (get_or records k d).number l.number
-        (elim (cases_lt k l.place) [
-          | inl low ↦ not_first (get_or records k d).number l.number (rw (least.1 d) at (sound.distinct k l.place d low least.0))
-          | inr high ↦ rw (least.1 d) at (sound.distinct l.place k d (omega arith) lt)
-        ])
+      before : (o p : Option ℕ) → IfSome o (λ n. p ≢ Some n) → o ≡ Some (next_number first.place) → elim p [ None ↦ false | Some n ↦ n == next_number first.place ] ≡ false
+      before None p differs is = cc
+      before (Some m) None differs is = refl
+      before (Some m) (Some n) differs is =
+          let m_is : m ≡ next_number first.place = (let d = is in cc) in
+          ne_eqb n (next_number first.place) (λ e. differs (ap (λ (r : ℕ). Some r) (e ∙ sym m_is)))
 
-    below : (g k : ℕ) (d : HandleRecord) → g < l.number / 4 → k < length records → is_number (next_number g) (get_or records k d) ≡ false
-    below g k d low lt = has_above (get_or records k d).number (next_number g) l.number (least.2 k d lt) (omega (arith, first_is))
+  finds_none : find (is_number (next_number first.place)) (remove records s.place) ≡ None
+  finds_none = find-remove_none (is_number (next_number first.place)) records s.place s.at.within other_number
 
-    pub flush_some : held_items given records ≡ ((x.node, x.held) ∷ []) ∷ held_items given (remove records l.place)
-    flush_some =
-        filter_map_first (λ g. held_item records (next_number g)) (λ g. held_item (remove records l.place) (next_number g)) ((x.node, x.held) ∷ []) (l.number / 4) 0 given
-        (omega arith) (omega (arith, first_is, given_is.low))
-        (λ g low. rw (find_none (is_number (next_number g)) records (λ k d lt. below g k d low lt)) refl)
-        (rw (first_is, find_first (is_number l.number) records l.place x least.0 (λ k lt. other_than k x (omega (arith, least.0)) (omega arith)) (has_it (get_or records l.place x).number l.number (least.1 x)), ← read) refl)
-        (λ g le. elim (cases_eq g (l.number / 4)) [
-          | inl same ↦ rw (same, first_is, find-remove_none (is_number l.number) records l.place least.0 other_than) refl
-          | inr less ↦ rw (find-remove_none (is_number (next_number g)) records l.place least.0 (λ k d lt ne. below g k d (omega arith) lt)) refl
-        ])
-        (λ g above. rw (find-remove (is_number (next_number g)) records l.place least.0 (λ d. has_other (get_or records l.place d).number (next_number g) (λ is. let same : l.number ≡ next_number g = some_same (sym (least.1 d) ∙ is) in absurd (omega (arith, first_is, same))))) refl)
+  finds_same : (g : ℕ) → g ≢ first.place → find (is_number (next_number g)) (remove records s.place) ≡ find (is_number (next_number g)) records
+  finds_same g ne =
+      find-remove (is_number (next_number g)) records s.place s.at.within
+      (λ d. ap (is_number (next_number g)) (sym (read_is d)) ∙ number_other x.number (next_number g) (next_number first.place) under.number (λ e. ne (omega (arith, e))))
 
-    other_node : (k : ℕ) (d : HandleRecord) → k < length records → k ≢ l.place → same_ref (get_or records k d).node (get_or records l.place d).node ≡ false
-    other_node k d lt ne =
-        elim (cases_lt k l.place) [
-          | inl low ↦ before_other (get_or records k d).node (get_or records l.place d).node (sound.ordered k l.place d low least.0)
-          | inr high ↦ before_itself (get_or records l.place d).node (get_or records k d).node (sound.ordered l.place k d (omega arith) lt)
-        ]
+  pub flush_some : held_items (length names) records ≡ ((first.node, x.held) ∷ []) ∷ held_items (length names) (remove records s.place)
+  flush_some =
+      filter_map_first (λ g. held_item records (next_number g)) (λ g. held_item (remove records s.place) (next_number g)) ((first.node, x.held) ∷ []) first.place 0 (length names)
+      (omega arith) (omega (arith, place_given))
+      (λ g low. ap item_of (find_none_from (next_number g) records (sym (k.named g) ∙ ends.1 g low)))
+      (ap item_of under.first ∙ ap (λ (n : NodeRef). Some ((n, x.held) ∷ [])) node_is)
+      (λ g le. elim (cases_eq g first.place) [
+        | inl same ↦ subst (λ (m : ℕ). item_of (find (is_number (next_number m)) (remove records s.place)) ≡ None) (sym same) (ap item_of finds_none)
+        | inr less ↦ ap item_of (finds_same g less ∙ find_none_from (next_number g) records (sym (k.named g) ∙ ends.1 g (omega arith)))
+      ])
+      (λ g above. ap item_of (finds_same g (omega arith)))
+    where
+      node_is : x.node ≡ first.node
+      node_is = same_is x.node first.node (ap (λ (h : HandleRecord). same_ref h.node first.node) (read_is x) ∙ s.at.here x)
 
-    pub without_is : remove records l.place ≡ without_node x.node records
-    without_is =
-        sym (filter_but_one (λ h. not (same_ref h.node x.node)) records l.place least.0
-        (λ k d lt ne. rw (node_is d, other_node k d lt ne) refl)
-        (λ d. rw (node_is d, same_itself (get_or records l.place d).node) refl))
+  pub given_is : length later ≡ length names
+  given_is = ap length ends.2 ∙ length-set names first.place None
+
+  pub next_is : held_items (length names) records ≡ ((first.node, x.held) ∷ []) ∷ held_items (length later) (without_node first.node records)
+  next_is =
+      flush_some
+      ∙ ap (λ hs. ((first.node, x.held) ∷ []) ∷ held_items (length names) hs) removed_is
+      ∙ ap (λ (n : ℕ). ((first.node, x.held) ∷ []) ∷ held_items n (without_node first.node records)) (sym given_is)
+
+  pub fewer : x.flight ≤ flights
+  fewer = let e = flights-remove records s.place x s.at.within s.read in omega (arith, e, k.counted)
+
+  pub kept-some : spare ≤ more → IsKept (without_node first.node records) later (flights - x.flight) more
+  kept-some room =
+      let nodes : IsKept (remove records s.place) later (flights - x.flight) more = record {
+        sound = subst (λ (n : ℕ). IsSound n (remove records s.place)) (sym given_is) (IsSound-remove (length names) s.place records s.at.within k.sound);
+        held = All-remove HasNumber records s.place k.held;
+        named = λ g.
+            ap (λ (ns : List (Option NodeRef)). name_at ns g) ends.2
+            ∙ elim (cases_eq g first.place) [
+              | inl same ↦
+                  subst (λ (m : ℕ). name_at (set names first.place None) m ≡ held_node (next_number m) (remove records s.place)) (sym same)
+                  (name_set names first.place ∙ sym (ap node_of finds_none))
+              | inr ne ↦ get_or-set_other names first.place g None None ne ∙ k.named g ∙ sym (ap node_of (finds_same g ne))
+            ];
+        counted = let e = flights-remove records s.place x s.at.within s.read in omega (arith, e, k.counted);
+        room = let r = k.room in omega (arith, r, room);
+      } in
+      subst (λ (hs : List HandleRecord). IsKept hs later (flights - x.flight) more) removed_is nodes
+
+pub one_is : (x y : HandleRecord) (o : Option HandleRecord) → o ≡ Some x → o ≡ Some y → x ≡ y
+one_is x y o first second = let e = sym first ∙ second in cc

@@ -1,5 +1,11 @@
 pub mod ListLemmas
+pub mod Order
+pub mod Keyed
+pub mod Names
+pub mod Places
 pub mod ChangedRecords
 pub mod Sound
+pub mod Soundness
+pub mod Holding
+pub mod Kept
 pub mod Flush
-pub mod FoundRecords

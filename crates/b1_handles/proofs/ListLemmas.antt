@@ -1,10 +1,9 @@
 -- Lists by the first place that passes a test, and pairs of elements.
 use Rattle.std.proofs.Common.{◌≡◌, ◌≢◌, ℕ, suc, zero, ◌+◌, ◌<◌, ◌≤◌, Bool, true, false, List, [], ◌∷◌, length, get_or, refl, ap, ◌∙◌, arith, inl, inr, Option, Some, None}
-use Rattle.std.specs.Prelude.{All, AllPairs, filter, filter_map, find, position, remove}
-use Rattle.std.specs.List.{position_or_len, range_with_len}
+use Rattle.std.specs.Prelude.{All, AllPairs, filter, filter_map, find, remove}
+use Rattle.std.specs.List.{range_with_len}
 use Rattle.std.proofs.lemmas.List.Elements.{All-head, All-tail}
-use Rattle.std.proofs.lemmas.List.Sums.{fails_before_first}
-use Rattle.std.proofs.lemmas.Bool.{cases_Bool, cases_eq, cases_lt, lt-ltb}
+use Rattle.std.proofs.lemmas.Bool.{cases_Bool, cases_eq}
 
 module _ {X : Type 0} where
   pub AllPairs-head : (R : X → X → Type 0) (x : X) (xs : List X) → AllPairs R (x ∷ xs) → All (R x) xs
@@ -15,13 +14,6 @@ module _ {X : Type 0} where
 
   pub AllPairs-nil : (R : X → X → Type 0) → AllPairs R []
   AllPairs-nil R i j d lt within = absurd (omega arith)
-
-  pub position_none : (p : X → Bool) (xs : List X) → position p xs ≡ None → All (λ x. p x ≡ false) xs
-  position_none p xs none k d lt =
-      elim (cases_lt (position_or_len p xs) (length xs)) [
-        | inl short ↦ let e = lt-ltb (position_or_len p xs) (length xs) short in let f = rw e at none in cc
-        | inr long ↦ fails_before_first p xs k d (omega arith)
-      ]
 
   pub find_none : (p : X → Bool) (xs : List X) → All (λ x. p x ≡ false) xs → find p xs ≡ None
   find_none p [] h = refl

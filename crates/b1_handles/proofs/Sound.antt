@@ -1,36 +1,21 @@
 -- What keeps the records in order and their numbers distinct.
-use Rattle.std.proofs.Common.{◌≡◌, ◌≢◌, ℕ, suc, ◌+◌, ◌<◌, ◌≤◌, true, false, if◌then◌else◌, List, [], ◌∷◌, ◌++◌, length, get_or, refl, ap, sym, subst, ◌∙◌, arith, inl, inr, Option, Some, None}
+use Rattle.std.proofs.Common.{◌≡◌, ◌≢◌, ℕ, suc, ◌+◌, ◌<◌, ◌≤◌, true, false, if◌then◌else◌, List, [], ◌∷◌, ◌++◌, length, get_or, ap, sym, subst, ◌∙◌, arith, inl, inr, Option, Some, None}
 use Rattle.std.specs.Prelude.{All, AllPairs, insert, remove}
 use Rattle.std.proofs.Common.{set, take, drop}
 use Rattle.std.proofs.lemmas.List.{get_or-set_same, get_or-set_other, length-set, get_or_default, get_or-take, get_or-drop, length-take, length-drop, take-append-drop}
-use Rattle.std.proofs.lemmas.Bool.Decides.{nat_tests}
 use Rattle.std.proofs.lemmas.List.Quantifiers.{all_pairs_remove}
 use Rattle.std.specs.Option.{IfSome}
 use Rattle.std.proofs.lemmas.List.Elements.{All-head, All-tail, All-cons, All-nil, All-weaker, All-append, All-take, All-drop, All-set}
 use Rattle.std.proofs.lemmas.List.Kept.{AllPairs-cons}
-use Rattle.std.proofs.lemmas.Bool.{cases_eq, cases_lt, eq-eqb}
+use Rattle.std.proofs.lemmas.Bool.{cases_eq, cases_lt}
 use Rattle.b1_model.specs.declared.naming.NodeRef.{NodeRef}
 use Rattle.b1_model.specs.MachineParts.{HandleRecord, no_record, same_ref, ref_before}
 use Rattle.b1_model.specs.MachineTables.{is_needed, next_number}
-use Rattle.b1_handles.specs.Handles.{IsSound, IsGivenNumber, IsPlaceFor, settled}
+use Rattle.b1_handles.specs.Handles.{IsSound, IsGivenNumber}
+use Rattle.b1_handles.proofs.Places.{IsPlaceFor, settled}
+use Rattle.b1_handles.proofs.Order.{before_itself, before_total, before_trans}
 use Rattle.b1_handles.proofs.ListLemmas.{AllPairs-head, AllPairs-tail, AllPairs-nil}
 use Rattle.b1_handles.proofs.ChangedRecords.{not_from}
-
--- ---- the order of nodes
-pub before_itself : (a b : NodeRef) → ref_before a b ≡ true → same_ref b a ≡ false
-before_itself a b before = grind (arith, nat_tests)
-
-pub before_other : (a b : NodeRef) → ref_before a b ≡ true → same_ref a b ≡ false
-before_other a b before = grind (arith, nat_tests)
-
-pub same_itself : (a : NodeRef) → same_ref a a ≡ true
-same_itself a = rw (eq-eqb a.owner a.owner refl, eq-eqb a.serial a.serial refl) refl
-
-pub before_trans : (a b c : NodeRef) → ref_before a b ≡ true → ref_before b c ≡ true → ref_before a c ≡ true
-before_trans a b c first second = grind (arith, nat_tests)
-
-pub before_total : (a b : NodeRef) → same_ref b a ≡ false → ref_before a b ≡ false → ref_before b a ≡ true
-before_total a b other behind = grind (arith, nat_tests)
 
 -- ---- pairs after one element changed, left or came in
 module _ {X : Type 0} (R : X → X → Type 0) where

@@ -1,10 +1,9 @@
 -- What contracts see of a peer's handle records, and what is always so of them.
-use Rattle.std.specs.Prelude.{◌≡◌, ◌≢◌, ℕ, ◌+◌, ◌<◌, ◌≤◌, ◌%◌, ◌==◌, Bool, true, false, not, ◌||◌, if◌then◌else◌, List, [], ◌∷◌, All, AllPairs, filter, get_or, length, remove, Option, Some, None, unwrap_or}
-use Rattle.std.specs.List.{AllWithin, HoldsAt}
+use Rattle.std.specs.Prelude.{◌≡◌, ◌≢◌, ℕ, ◌+◌, ◌<◌, ◌%◌, ◌==◌, Bool, true, false, not, if◌then◌else◌, List, [], ◌∷◌, All, AllPairs, filter, Option, Some, None, unwrap_or}
 use Rattle.std.specs.Option.{IfSome}
 use Rattle.b1_model.specs.declared.naming.NodeRef.{NodeRef}
-use Rattle.b1_model.specs.MachineParts.{HandleRecord, no_record, record_of, record_or_none, same_ref, ref_before}
-use Rattle.b1_model.specs.MachineTables.{is_needed, changed, changed_or_made, less_flight, more_held, next_number}
+use Rattle.b1_model.specs.MachineParts.{HandleRecord, record_of, record_or_none, same_ref, ref_before}
+use Rattle.b1_model.specs.MachineTables.{changed, changed_or_made, less_flight, more_held, next_number}
 
 -- a table of handle records: the records in the order of their nodes, and how many numbers were given
 pub record Handles : Type 0 where
@@ -50,17 +49,3 @@ without_node node records = filter (λ h. not (same_ref h.node node)) records
 abbrev pub flushed_item : Option (NodeRef × ℕ) → List (List (NodeRef × ℕ))
 flushed_item None = []
 flushed_item (Some r) = (r ∷ []) ∷ []
-
--- whether a record is the node's or stands behind it
-abbrev pub is_from : NodeRef → HandleRecord → Bool
-is_from node h = same_ref h.node node || ref_before node h.node
-
--- how many records stand before a node's own, or before its place
-pub record IsPlaceFor (node : NodeRef) (records : List HandleRecord) (place : ℕ) : Type 0 where
-  pub within : place ≤ length records
-  pub before : AllWithin (λ h. is_from node h ≡ false) records 0 place
-  pub here : place < length records → HoldsAt (λ h. is_from node h ≡ true) records place
-
--- the record at a place goes where it isn't needed any more
-abbrev pub settled : ℕ → List HandleRecord → List HandleRecord
-settled place records = if is_needed (get_or records place (no_record (record { owner = 0; serial = 0 }))) then records else remove records place

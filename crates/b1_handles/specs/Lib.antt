@@ -1,5 +1,7 @@
 pub mod Handles
-pub mod Least
+pub mod Kept
+pub mod Numbers
+pub mod Records
 pub use Rattle.b1_model.specs.MachineDestroy
 pub use Rattle.b1_model.specs.MachineParts
 pub use Rattle.b1_model.specs.MachineTables

@@ -1,28 +1,47 @@
-//! Changes of one record in the list of them.
+//! Changes of one record in the map of them, by its node.
 
-ghost use Rattle.std.specs.Prelude.{◌≡◌, ◌==◌, ◌+◌, ◌<◌, ◌^◌, ℕ, true, AllPairs, if◌then◌else◌, is_none, unwrap_or, IfOk, OnOk, OnErr, IfSome, IfNone};
+ghost use Rattle.std.specs.Prelude.{◌≡◌, ◌==◌, ◌<◌, ◌^◌, true, AllPairs, if◌then◌else◌, is_none, is_some, unwrap_or, IfOk, OnOk, OnErr};
+ghost use Rattle.std.specs.Option.{option_copied};
+ghost use Rattle.std.specs.BTreeMap.{values};
 ghost use Rattle.b1_model.specs.MachineParts.{record_of, record_or_none, ref_before};
-ghost use Rattle.b1_model.specs.MachineTables.{changed, changed_or_made, more_flight, less_flight, more_held, less_held, noticed, made_dead, held_node, next_number};
-ghost use Rattle.b1_handles.specs.Handles.{IsSound, needs_notice};
+ghost use Rattle.b1_model.specs.MachineTables.{changed, changed_or_made, more_flight, less_flight, more_held, less_held, noticed, made_dead};
+ghost use Rattle.b1_handles.specs.Handles.{needs_notice, without_node};
+ghost use Rattle.b1_handles.specs.Records.{key_of as node_key, settled, IsKeyed};
 
 use crate::handle::{Handle, Held};
-use crate::places::{index_of, index_of_number, is_at, place_for, settle};
 use b1_model::NodeRef;
 use std::alloc::AllocError;
+use std::collections::BTreeMap;
+
+/// A node's owner and serial.
+fn key_of(node: NodeRef) -> (u32, u32)
+    ensures { result ≡ node_key node }
+{
+    (node.owner, node.serial)
+}
+
+/// A node's record.
+pub fn record_in(records: &BTreeMap<(u32, u32), Handle>, node: NodeRef) -> Option<&Handle>
+    requires { IsKeyed records.now.entries }
+    ensures { option_copied result ≡ record_of node (values records.now) }
+{
+    records.get(&key_of(node))
+}
 
 /// One more queued slot carries a node. Whether its record was made.
-pub fn expect_in(records: &mut Vec<Handle>, node: NodeRef) -> Result<bool, AllocError>
-    requires { AllPairs (λ a b. ref_before a.node b.node ≡ true) records.old.items }
-    ensures made { IfOk result (λ made. made ≡ is_none (record_of node records.old.items)) }
-    ensures records { OnOk result (records.new.items
-        ≡ changed_or_made node more_flight records.old.items) }
-    ensures unchanged { OnErr result (records.new.items ≡ records.old.items) }
-    ensures sound { (given : ℕ) → IsSound given records.old.items
-        → IsSound given records.new.items }
+pub fn expect_in(
+    records: &mut BTreeMap<(u32, u32), Handle>,
+    node: NodeRef,
+) -> Result<bool, AllocError>
+    requires keyed { IsKeyed records.old.entries }
+    requires ordered { AllPairs (λ a b. ref_before a.node b.node ≡ true) (values records.old) }
+    ensures keyed { IsKeyed records.new.entries }
+    ensures made { IfOk result (λ made. made ≡ is_none (record_of node (values records.old))) }
+    ensures records { OnOk result (values records.new
+        ≡ changed_or_made node more_flight (values records.old)) }
+    ensures unchanged { OnErr result (values records.new ≡ values records.old) }
 {
-    let place = place_for(records, node);
-    if is_at(records, place, node) {
-        let handle = &mut records[place];
+    if let Some(handle) = records.get_mut(&key_of(node)) {
         if handle.flight() == u64::MAX {
             return Err(AllocError);
         }
@@ -31,95 +50,96 @@ pub fn expect_in(records: &mut Vec<Handle>, node: NodeRef) -> Result<bool, Alloc
     }
     let mut handle = Handle::new(node);
     handle.more_flight();
-    records.insert(place, handle)?;
+    records.insert(key_of(node), handle)?;
     Ok(true)
 }
 
 /// One fewer queued slot carries a node.
-pub fn unexpect_in(records: &mut Vec<Handle>, node: NodeRef)
-    requires { 0 < (record_or_none node records.old.items).flight }
-    ensures records { records.new.items ≡ changed node less_flight records.old.items }
-    ensures sound { (given : ℕ) → IsSound given records.old.items
-        → IsSound given records.new.items }
+pub fn unexpect_in(records: &mut BTreeMap<(u32, u32), Handle>, node: NodeRef)
+    requires keyed { IsKeyed records.old.entries }
+    requires carried { 0 < (record_or_none node (values records.old)).flight }
+    ensures keyed { IsKeyed records.new.entries }
+    ensures records { values records.new ≡ changed node less_flight (values records.old) }
 {
-    if let Some(place) = index_of(records, node) {
-        records[place].less_flight();
-        settle(records, place);
+    if let Some(handle) = records.get_mut(&key_of(node)) {
+        handle.less_flight();
+        settle(records, node);
     }
 }
 
 /// A carried node arrives: it is held once more, under `next` where it wasn't held.
-pub fn gain_in(records: &mut Vec<Handle>, node: NodeRef, next: u64) -> Held
-    requires carried { 0 < (record_or_none node records.old.items).flight }
-    requires fits { (record_or_none node records.old.items).held < 2 ^ 63 }
-    ensures number { result.number ≡ unwrap_or (record_or_none node records.old.items).number next }
-    ensures is_new { result.is_new ≡ ((record_or_none node records.old.items).held == 0) }
-    ensures records { records.new.items
-        ≡ changed node (λ h. more_held next (less_flight h)) records.old.items }
-    ensures sound { (given : ℕ) → next ≡ next_number given → IsSound given records.old.items
-        → IsSound (if result.is_new then given + 1 else given) records.new.items }
+pub fn gain_in(records: &mut BTreeMap<(u32, u32), Handle>, node: NodeRef, next: u64) -> Held
+    requires keyed { IsKeyed records.old.entries }
+    requires carried { 0 < (record_or_none node (values records.old)).flight }
+    requires fits { (record_or_none node (values records.old)).held < 2 ^ 63 }
+    ensures number { result.number
+        ≡ unwrap_or (record_or_none node (values records.old)).number next }
+    ensures is_new { result.is_new ≡ ((record_or_none node (values records.old)).held == 0) }
+    ensures keyed { IsKeyed records.new.entries }
+    ensures records { values records.new
+        ≡ changed node (λ h. more_held next (less_flight h)) (values records.old) }
 {
-    let Some(place) = index_of(records, node) else {
+    let Some(handle) = records.get_mut(&key_of(node)) else {
         unreachable!()
     };
-    records[place].gain(next)
+    handle.gain(next)
 }
 
 /// A node is held once more, under `next` where it wasn't held.
-pub fn wire_in(records: &mut Vec<Handle>, node: NodeRef, next: u64) -> Result<Held, AllocError>
-    requires ordered { AllPairs (λ a b. ref_before a.node b.node ≡ true) records.old.items }
-    requires fits { (record_or_none node records.old.items).held < 2 ^ 63 }
+pub fn wire_in(
+    records: &mut BTreeMap<(u32, u32), Handle>,
+    node: NodeRef,
+    next: u64,
+) -> Result<Held, AllocError>
+    requires keyed { IsKeyed records.old.entries }
+    requires ordered { AllPairs (λ a b. ref_before a.node b.node ≡ true) (values records.old) }
+    requires fits { (record_or_none node (values records.old)).held < 2 ^ 63 }
+    ensures keyed { IsKeyed records.new.entries }
     ensures number { IfOk result (λ held. held.number
-        ≡ unwrap_or (record_or_none node records.old.items).number next) }
+        ≡ unwrap_or (record_or_none node (values records.old)).number next) }
     ensures is_new { IfOk result (λ held. held.is_new
-        ≡ ((record_or_none node records.old.items).held == 0)) }
-    ensures records { OnOk result (records.new.items
-        ≡ changed_or_made node (more_held next) records.old.items) }
-    ensures unchanged { OnErr result (records.new.items ≡ records.old.items) }
-    ensures sound { IfOk result (λ held. (given : ℕ) → next ≡ next_number given
-        → IsSound given records.old.items
-        → IsSound (if held.is_new then given + 1 else given) records.new.items) }
+        ≡ ((record_or_none node (values records.old)).held == 0)) }
+    ensures records { OnOk result (values records.new
+        ≡ changed_or_made node (more_held next) (values records.old)) }
+    ensures unchanged { OnErr result (values records.new ≡ values records.old) }
 {
-    let place = place_for(records, node);
-    if is_at(records, place, node) {
-        return Ok(records[place].hold(next));
+    if let Some(handle) = records.get_mut(&key_of(node)) {
+        return Ok(handle.hold(next));
     }
     let mut handle = Handle::new(node);
     let held = handle.hold(next);
-    records.insert(place, handle)?;
+    records.insert(key_of(node), handle)?;
     Ok(held)
 }
 
-/// Gives up once the handle under a number; its node, `None` where none is held under it.
-pub fn give_up_in(records: &mut Vec<Handle>, number: u64) -> Option<NodeRef>
-    requires { AllPairs (λ a b. ref_before a.node b.node ≡ true) records.old.items }
-    ensures node { result ≡ held_node number records.old.items }
-    ensures records { IfSome result (λ node. records.new.items
-        ≡ changed node less_held records.old.items) }
-    ensures unchanged { IfNone result (records.new.items ≡ records.old.items) }
-    ensures sound { (given : ℕ) → IsSound given records.old.items
-        → IsSound given records.new.items }
+/// A held node is held once less. Whether its number has ended.
+pub fn release_in(records: &mut BTreeMap<(u32, u32), Handle>, node: NodeRef) -> bool
+    requires keyed { IsKeyed records.old.entries }
+    requires held { is_some (record_or_none node (values records.old)).number ≡ true }
+    ensures ended { result ≡ ((record_or_none node (values records.old)).held == 1) }
+    ensures keyed { IsKeyed records.new.entries }
+    ensures records { values records.new ≡ changed node less_held (values records.old) }
 {
-    let place = index_of_number(records, number)?;
-    let handle = &mut records[place];
-    let node = handle.node();
+    let Some(handle) = records.get_mut(&key_of(node)) else {
+        unreachable!()
+    };
+    let ended = handle.held() == 1;
     handle.release();
-    settle(records, place);
-    Some(node)
+    settle(records, node);
+    ended
 }
 
 /// Counts a node's destroy notice as queued. Whether the node has a record and had no notice queued.
-pub fn notify_in(records: &mut Vec<Handle>, node: NodeRef) -> bool
-    ensures needed { result ≡ needs_notice node records.old.items }
-    ensures records { records.new.items
-        ≡ (if result then changed node noticed records.old.items else records.old.items) }
-    ensures sound { (given : ℕ) → IsSound given records.old.items
-        → IsSound given records.new.items }
+pub fn notify_in(records: &mut BTreeMap<(u32, u32), Handle>, node: NodeRef) -> bool
+    requires keyed { IsKeyed records.old.entries }
+    ensures needed { result ≡ needs_notice node (values records.old) }
+    ensures keyed { IsKeyed records.new.entries }
+    ensures records { values records.new ≡ (if result
+        then changed node noticed (values records.old) else values records.old) }
 {
-    let Some(place) = index_of(records, node) else {
+    let Some(handle) = records.get_mut(&key_of(node)) else {
         return false;
     };
-    let handle = &mut records[place];
     if handle.has_notice() {
         return false;
     }
@@ -128,13 +148,37 @@ pub fn notify_in(records: &mut Vec<Handle>, node: NodeRef) -> bool
 }
 
 /// A node's queued destroy notice has left the queue.
-pub fn mark_dead_in(records: &mut Vec<Handle>, node: NodeRef)
-    ensures records { records.new.items ≡ changed node made_dead records.old.items }
-    ensures sound { (given : ℕ) → IsSound given records.old.items
-        → IsSound given records.new.items }
+pub fn mark_dead_in(records: &mut BTreeMap<(u32, u32), Handle>, node: NodeRef)
+    requires keyed { IsKeyed records.old.entries }
+    ensures keyed { IsKeyed records.new.entries }
+    ensures records { values records.new ≡ changed node made_dead (values records.old) }
 {
-    if let Some(place) = index_of(records, node) {
-        records[place].kill();
-        settle(records, place);
+    if let Some(handle) = records.get_mut(&key_of(node)) {
+        handle.kill();
+        settle(records, node);
     }
+}
+
+/// Removes a node's record, where it isn't needed any more.
+fn settle(records: &mut BTreeMap<(u32, u32), Handle>, node: NodeRef)
+    ensures { records.new.entries ≡ settled node records.old.entries }
+{
+    let is_needed = match records.get(&key_of(node)) {
+        Some(handle) => handle.is_needed(),
+        None => true,
+    };
+    if !is_needed {
+        records.remove(&key_of(node));
+    }
+}
+
+/// Removes a node's record.
+pub fn drop_in(records: &mut BTreeMap<(u32, u32), Handle>, node: NodeRef) -> Option<Handle>
+    requires keyed { IsKeyed records.old.entries }
+    requires ordered { AllPairs (λ a b. ref_before a.node b.node ≡ true) (values records.old) }
+    ensures keyed { IsKeyed records.new.entries }
+    ensures record { result ≡ record_of node (values records.old) }
+    ensures records { values records.new ≡ without_node node (values records.old) }
+{
+    records.remove(&key_of(node))
 }

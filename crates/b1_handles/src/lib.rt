@@ -4,8 +4,8 @@
 
 mod changes;
 mod handle;
-mod least;
-mod places;
+mod numbers;
+mod records;
 mod table;
 
 pub use table::{HandleTable, NoHandle};

@@ -1,15 +1,13 @@
-ghost use Rattle.std.specs.Prelude.{◌≡◌, ◌+◌, ◌++◌, ◌<◌, ◌^◌, [], false, true, length, nat_lt, if◌then◌else◌, is_none, IfOk, OnOk, OnErr, IfSome, IfNone, None, Some, MatchResult};
+ghost use Rattle.std.specs.Prelude.{◌≡◌, ◌+◌, ◌-◌, ◌/◌, ◌++◌, ◌∷◌, ◌<◌, ◌≤◌, slice_set, ◌^◌, [], false, true, length, nat_lt, if◌then◌else◌, is_none, IfOk, OnOk, OnErr, IfSome, IfNone, None, Some, MatchResult};
 ghost use Rattle.b1_model.specs.MachineParts.{record_of, record_or_none};
 ghost use Rattle.b1_model.specs.MachineTables.{changed, changed_or_made, more_flight, less_flight, less_held, noticed, made_dead, held_node};
 ghost use Rattle.b1_model.specs.MachineDestroy.{held_items};
 ghost use Rattle.b1_handles.specs.Handles.{flushed_item, gained, needs_notice, number_for, wired, without_node};
+ghost use Rattle.b1_handles.specs.Numbers.{node_under};
 
-use crate::changes::{
-    expect_in, gain_in, give_up_in, mark_dead_in, notify_in, unexpect_in, wire_in,
-};
-use crate::handle::{Handle, Held};
-use crate::least::least_place;
-use crate::places::{index_of, index_of_number};
+use crate::handle::Held;
+use crate::numbers::Numbers;
+use crate::records::Records;
 use b1_model::NodeRef;
 use std::alloc::{AllocError, Global};
 use std::marker::Model;
@@ -23,20 +21,26 @@ pub struct NoHandle;
 /// A node has a record while it is held, while a queued entry carries it, and while its destroy notice is queued. A number
 /// is given when a node that isn't held becomes held, and ends when it is given up for the last time: the first is 2, each
 /// later one is 4 more than the one before, and none is given twice.
+///
+/// Each call takes a time of log n, for n records, but a flush, which also goes once over the numbers given since the
+/// oldest that hasn't ended. A queued slot that carries a node has a place reserved for a number.
 #[derive(Debug, Drop)]
 pub struct HandleTable {
-    records: Vec<Handle>,
-    given: u64,
+    records: Records,
+    numbers: Numbers,
+    flights: usize,
 }
 
 impl Model for HandleTable {
-    ghost use Rattle.b1_handles.specs.Handles.{Handles, IsSound};
+    ghost use Rattle.std.specs.Prelude.{length};
+    ghost use Rattle.b1_handles.specs.Handles.{Handles};
+    ghost use Rattle.b1_handles.specs.Kept.{IsKept};
 
     ghost Value = { Handles };
 
-    ghost view = { λ t. record { records = t.records.items; given = t.given } };
+    ghost view = { λ t. record { records = t.records; given = length t.numbers.names } };
 
-    ghost invariant = { λ t. IsSound t.given t.records.items };
+    ghost invariant = { λ t. IsKept t.records t.numbers.names t.flights t.numbers.spare };
 }
 
 impl HandleTable {
@@ -45,8 +49,9 @@ impl HandleTable {
         ensures { result ≡ record { records = []; given = 0 } }
     {
         HandleTable {
-            records: Vec::new(alloc),
-            given: 0,
+            records: Records::make(alloc),
+            numbers: Numbers::make(alloc),
+            flights: 0,
         }
     }
 
@@ -65,7 +70,10 @@ impl HandleTable {
             ≡ record self.old { records = changed_or_made node more_flight self.old.records }) }
         ensures unchanged { OnErr result (self.new ≡ self.old) }
     {
-        expect_in(&mut self.records, node)
+        let flights = reserve_one(&mut self.numbers, self.flights)?;
+        let made = self.records.expect(node)?;
+        self.flights = flights;
+        Ok(made)
     }
 
     /// One fewer queued slot carries a node. At least one must carry it. A record that isn't needed any more goes.
@@ -74,7 +82,8 @@ impl HandleTable {
         ensures { self.new
             ≡ record self.old { records = changed node less_flight self.old.records } }
     {
-        unexpect_in(&mut self.records, node);
+        self.records.unexpect(node);
+        self.flights -= 1;
     }
 
     /// A carried node arrives: one slot fewer carries it, and it is held once more, under the next number where it wasn't
@@ -88,8 +97,9 @@ impl HandleTable {
         ensures number { result ≡ number_for node self.old }
         ensures gained { self.new ≡ gained node self.old }
     {
-        let held = gain_in(&mut self.records, node, 2 + 4 * self.given);
-        count(&mut self.given, held)
+        let held = self.records.gain(node, 2 + 4 * self.numbers.len());
+        self.flights -= 1;
+        count(&mut self.numbers, node, held)
     }
 
     /// A node is held once more without having been carried, under the next number where it wasn't held. The answer is its
@@ -103,8 +113,9 @@ impl HandleTable {
         ensures wired { OnOk result (self.new ≡ wired node self.old) }
         ensures unchanged { OnErr result (self.new ≡ self.old) }
     {
-        let held = wire_in(&mut self.records, node, 2 + 4 * self.given)?;
-        Ok(count(&mut self.given, held))
+        reserve_one(&mut self.numbers, self.flights)?;
+        let held = self.records.wire(node, 2 + 4 * self.numbers.len())?;
+        Ok(count(&mut self.numbers, node, held))
     }
 
     /// A node is held once less; its number ends with the last, and a record that isn't needed any more goes. The answer is
@@ -116,10 +127,12 @@ impl HandleTable {
             ≡ record self.old { records = changed node less_held self.old.records }) }
         ensures unchanged { OnErr result (self.new ≡ self.old) }
     {
-        match give_up_in(&mut self.records, number) {
-            Some(node) => Ok(node),
-            None => Err(NoHandle),
-        }
+        let Some(node) = node_in(&self.numbers, number) else {
+            return Err(NoHandle);
+        };
+        let ended = self.records.release(node);
+        end_if(&mut self.numbers, number, ended);
+        Ok(node)
     }
 
     /// Counts a node's destroy notice as queued, where the node has a record and no notice of it is queued. The answer is
@@ -131,7 +144,7 @@ impl HandleTable {
               then changed node noticed self.old.records else self.old.records;
         } }
     {
-        notify_in(&mut self.records, node)
+        self.records.notify(node)
     }
 
     /// A node's queued destroy notice has left the queue: its record is dead, and goes where it isn't needed any more. A
@@ -140,15 +153,15 @@ impl HandleTable {
         requires { (record_or_none node self.old.records).notice ≡ true }
         ensures { self.new ≡ record self.old { records = changed node made_dead self.old.records } }
     {
-        mark_dead_in(&mut self.records, node);
+        self.records.mark_dead(node);
     }
 
     /// Whether a node has a record that is dead: its destroy notice has left the queue.
     pub fn is_dead(&self, node: NodeRef) -> bool
         ensures { result ≡ (record_or_none node self.now.records).dead }
     {
-        match index_of(&self.records, node) {
-            Some(place) => self.records[place].is_dead(),
+        match self.records.get(node) {
+            Some(handle) => handle.is_dead(),
             None => false,
         }
     }
@@ -157,8 +170,8 @@ impl HandleTable {
     pub fn is_held(&self, node: NodeRef) -> bool
         ensures { result ≡ nat_lt 0 (record_or_none node self.now.records).held }
     {
-        match index_of(&self.records, node) {
-            Some(place) => self.records[place].held() > 0,
+        match self.records.get(node) {
+            Some(handle) => handle.held() > 0,
             None => false,
         }
     }
@@ -167,18 +180,15 @@ impl HandleTable {
     pub fn node_of(&self, number: u64) -> Option<NodeRef>
         ensures { result ≡ held_node number self.now.records }
     {
-        match index_of_number(&self.records, number) {
-            Some(place) => Some(self.records[place].node()),
-            None => None,
-        }
+        node_in(&self.numbers, number)
     }
 
     /// The number under which a node is held; `None` where it isn't.
     pub fn number_of(&self, node: NodeRef) -> Option<u64>
         ensures { result ≡ (record_or_none node self.now.records).number }
     {
-        match index_of(&self.records, node) {
-            Some(place) => self.records[place].number(),
+        match self.records.get(node) {
+            Some(handle) => handle.number(),
             None => None,
         }
     }
@@ -192,23 +202,67 @@ impl HandleTable {
             ≡ record self.old { records = without_node r.0 self.old.records }) }
         ensures emptied { IfNone result (self.new ≡ record self.old { records = [] }) }
     {
-        let Some(least) = least_place(&self.records) else {
+        let Some(first) = self.numbers.end_first() else {
             self.records.clear();
+            self.flights = 0;
             return None;
         };
-        let handle = self.records.remove(least.place);
-        Some((handle.node(), handle.held()))
+        let Some(handle) = self.records.remove(first.node) else {
+            unreachable!()
+        };
+        self.flights -= handle.flight() as usize;
+        Some((first.node, handle.held()))
     }
 }
 
-/// Counts a number that is new, and answers it.
-fn count(given: &mut u64, held: Held) -> u64
-    requires { given.old < 2 ^ 60 }
+/// Makes room for a number beside those of the queued slots that carry nodes, and answers for how many there is room then.
+/// An error is want of memory, and leaves every number.
+fn reserve_one(numbers: &mut Numbers, flights: usize) -> Result<usize, AllocError>
+    ensures places { IfOk result (λ places. places ≡ flights + 1) }
+    ensures room { OnOk result (flights + 1 ≤ numbers.new.spare) }
+    ensures names { numbers.new.names ≡ numbers.old.names }
+    ensures more { numbers.old.spare ≤ numbers.new.spare }
+{
+    if flights == usize::MAX {
+        return Err(AllocError);
+    }
+    numbers.reserve(flights + 1)?;
+    Ok(flights + 1)
+}
+
+/// Gives a number that is new to its node, and answers it.
+fn count(numbers: &mut Numbers, node: NodeRef, held: Held) -> u64
+    requires room { held.is_new ≡ true → 0 < numbers.old.spare }
+    requires few { length numbers.old.names < 2 ^ 60 }
     ensures number { result ≡ held.number }
-    ensures given { given.new ≡ (if held.is_new then given.old + 1 else given.old) }
+    ensures names { numbers.new.names ≡ (if held.is_new
+        then numbers.old.names ++ Some node ∷ [] else numbers.old.names) }
+    ensures spare { numbers.new.spare
+        ≡ (if held.is_new then numbers.old.spare - 1 else numbers.old.spare) }
 {
     if held.is_new {
-        *given += 1;
+        numbers.give(node);
     }
     held.number
+}
+
+/// Ends a number that was given up for the last time.
+fn end_if(numbers: &mut Numbers, number: u64, ended: bool)
+    ensures names { numbers.new.names ≡ (if ended
+        then slice_set numbers.old.names (number / 4) None else numbers.old.names) }
+    ensures spare { numbers.old.spare ≤ numbers.new.spare }
+{
+    if ended {
+        numbers.end(number / 4);
+    }
+}
+
+/// The node that is held under a number; `None` where none is.
+fn node_in(numbers: &Numbers, number: u64) -> Option<NodeRef>
+    ensures { result ≡ node_under number numbers.now.names }
+{
+    if number % 4 != 2 {
+        return None;
+    }
+    numbers.get(number / 4)
 }

@@ -1,24 +1,27 @@
-use Rattle.std.proofs.Common.{ap, sym, subst, ◌∙◌}
+use Rattle.std.proofs.Common.{ℕ, ap, refl, sym, ◌∙◌}
+use Rattle.std.specs.Option.{option_copied_mut}
+use Rattle.std.specs.BTreeMap.{BTreeMap, values}
 use Rattle.b1_model.specs.MachineParts.{HandleRecord}
 use Rattle.b1_model.specs.MachineTables.{made_dead}
-use Rattle.b1_handles.specs.Handles.{IsSound}
-use Rattle.b1_handles.proofs.ChangedRecords.{place_from, none_from, changed_settled, changed-absent}
-use Rattle.b1_handles.proofs.FoundRecords.{sound_kept}
+use Rattle.b1_handles.specs.Records.{settled}
+use Rattle.b1_handles.proofs.Keyed.{keyed_by, settled_record, unchanged_absent, values_by}
 use Rattle.b1_handles.proofs.changes.mark_dead_in.Goals as goal
+
+pub returns-in-Some-clause-keyed : goal.returns-in-Some-clause-keyed
+returns-in-Some-clause-keyed c =
+    keyed_by _ _
+    (c.settle.ensures
+    ∙ ap (settled c.args.node) (c.get_mut.follows.holds c.kill.new.self).0
+    ∙ settled_record c.args.node c.key_of.result c.args.records.now.entries c.key_of.ensures c.requires.keyed made_dead (λ h. refl) c.in-Some.handle.now c.kill.new.self (sym c.get_mut.ensures.value ∙ ap (λ o. option_copied_mut o) c.in-Some.is) c.kill.ensures)
 
 pub returns-in-Some-clause-records : goal.returns-in-Some-clause-records
 returns-in-Some-clause-records c =
-    let at = place_from c.args.node c.deref.result.now c.args.records.now.items c.in-Some.place c.deref.ensures.value c.in-Some.ensures in
-    c.settle.ensures ∙ changed_settled c.args.node made_dead c.args.records.now.items c.in-Some.place c.index_mut.result.now c.kill.new.self at c.index_mut.ensures.value c.kill.ensures
-
-pub returns-in-Some-clause-sound : goal.returns-in-Some-clause-sound
-returns-in-Some-clause-sound c = λ given sound.
-    let at = place_from c.args.node c.deref.result.now c.args.records.now.items c.in-Some.place c.deref.ensures.value c.in-Some.ensures in
-    subst (IsSound given) (sym c.settle.ensures)
-    (sound_kept given c.in-Some.place c.args.records.now.items c.index_mut.result.now c.kill.new.self at.within c.index_mut.ensures.value sound
-    (ap (λ (h : HandleRecord). h.node) c.kill.ensures) (ap (λ (h : HandleRecord). h.number) c.kill.ensures))
+    values_by _ _
+    (c.settle.ensures
+    ∙ ap (settled c.args.node) (c.get_mut.follows.holds c.kill.new.self).0
+    ∙ settled_record c.args.node c.key_of.result c.args.records.now.entries c.key_of.ensures c.requires.keyed made_dead (λ h. refl) c.in-Some.handle.now c.kill.new.self (sym c.get_mut.ensures.value ∙ ap (λ o. option_copied_mut o) c.in-Some.is) c.kill.ensures)
 
 pub returns-in_default-clause-records : goal.returns-in_default-clause-records
 returns-in_default-clause-records c =
-    sym (changed-absent c.args.node made_dead c.args.records.now.items
-    (none_from c.args.node c.deref.result.now c.args.records.now.items c.deref.ensures.value (sym c.index_of.ensures ∙ c.in_default.is)))
+    ap (λ (m : BTreeMap (ℕ × ℕ) HandleRecord). values m) c.get_mut.follows.holds-at-none
+    ∙ sym (unchanged_absent c.args.node c.key_of.result c.args.records.now.entries c.key_of.ensures c.requires.keyed made_dead (sym c.get_mut.ensures.value ∙ ap (λ o. option_copied_mut o) c.in_default.is))

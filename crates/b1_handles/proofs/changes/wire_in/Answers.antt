@@ -1,72 +1,55 @@
-use Rattle.std.proofs.Common.{◌≡◌, ◌==◌, ◌+◌, ◌<◌, ◌^◌, Bool, true, if◌then◌else◌, List, ap, sym, subst, ◌∙◌}
-use Rattle.std.specs.Prelude.{insert, slice_set, unwrap_or}
-use Rattle.b1_model.specs.MachineParts.{HandleRecord, no_record}
+use Rattle.std.proofs.Common.{◌==◌, ◌<◌, ◌^◌, ℕ, ap, refl, subst, sym, ◌∙◌}
+use Rattle.std.specs.Prelude.{unwrap_or}
+use Rattle.std.specs.Option.{option_copied_mut}
+use Rattle.std.specs.BTreeMap.{BTreeMap, insert_entry}
+use Rattle.b1_model.specs.MachineParts.{HandleRecord}
 use Rattle.b1_model.specs.MachineTables.{more_held}
-use Rattle.b1_handles.specs.Handles.{IsSound, IsPlaceFor}
-use Rattle.b1_handles.proofs.ChangedRecords.{record_or_none-place, changed_or_made_set, changed_or_made_insert}
-use Rattle.b1_handles.proofs.FoundRecords.{found_there, other_there, record_or_none-absent, sound_more, sound_wired}
-use Rattle.b1_handles.proofs.Sound.{none_there}
+use Rattle.b1_handles.specs.Records.{key_cmp}
+use Rattle.b1_handles.proofs.Keyed.{keyed_by, lookup_record, made_new, made_there, or_none_absent, or_none_there, values_by}
 use Rattle.b1_handles.proofs.changes.wire_in.Goals as goal
 
 pub hold-requires : goal.hold-requires
 hold-requires c =
-    let here : IsPlaceFor c.args.node c.args.records.now.items c.place_for-place.result = subst (λ (hs : List HandleRecord). IsPlaceFor c.args.node hs c.place_for-place.result) c.deref.ensures.value c.place_for-place.ensures in
-    let at = found_there c.args.node c.deref-2.result.now c.args.records.now.items c.place_for-place.result c.is_at.result here c.deref-2.ensures.value c.is_at.ensures.same c.is_at.ensures.within c.if-is_at.true in
-    subst (λ (h : HandleRecord). h.held < 2 ^ 63) (record_or_none-place c.args.node c.args.records.now.items c.place_for-place.result c.index_mut.result.now at c.index_mut.ensures.value) c.requires.fits
+    subst (λ (h : HandleRecord). h.held < 2 ^ 63) (or_none_there c.args.node c.key_of.result c.args.records.now.entries c.key_of.ensures c.requires.keyed c.in-Some.handle.now (sym c.get_mut.ensures.value ∙ ap (λ o. option_copied_mut o) c.in-Some.is)) c.requires.fits
 
-pub returns-then-is_at-clause-number : goal.returns-then-is_at-clause-number
-returns-then-is_at-clause-number c =
-    let here : IsPlaceFor c.args.node c.args.records.now.items c.place_for-place.result = subst (λ (hs : List HandleRecord). IsPlaceFor c.args.node hs c.place_for-place.result) c.deref.ensures.value c.place_for-place.ensures in
-    let at = found_there c.args.node c.deref-2.result.now c.args.records.now.items c.place_for-place.result c.is_at.result here c.deref-2.ensures.value c.is_at.ensures.same c.is_at.ensures.within c.if-is_at.true in
-    c.hold.ensures.number ∙ sym (ap (λ (h : HandleRecord). unwrap_or h.number c.args.next) (record_or_none-place c.args.node c.args.records.now.items c.place_for-place.result c.index_mut.result.now at c.index_mut.ensures.value))
+pub returns-in-Some-clause-number : goal.returns-in-Some-clause-number
+returns-in-Some-clause-number c =
+    c.hold.ensures.number ∙ sym (ap (λ (h : HandleRecord). unwrap_or h.number c.args.next) (or_none_there c.args.node c.key_of.result c.args.records.now.entries c.key_of.ensures c.requires.keyed c.in-Some.handle.now (sym c.get_mut.ensures.value ∙ ap (λ o. option_copied_mut o) c.in-Some.is)))
 
-pub returns-then-is_at-clause-is_new : goal.returns-then-is_at-clause-is_new
-returns-then-is_at-clause-is_new c =
-    let here : IsPlaceFor c.args.node c.args.records.now.items c.place_for-place.result = subst (λ (hs : List HandleRecord). IsPlaceFor c.args.node hs c.place_for-place.result) c.deref.ensures.value c.place_for-place.ensures in
-    let at = found_there c.args.node c.deref-2.result.now c.args.records.now.items c.place_for-place.result c.is_at.result here c.deref-2.ensures.value c.is_at.ensures.same c.is_at.ensures.within c.if-is_at.true in
-    c.hold.ensures.is_new ∙ sym (ap (λ (h : HandleRecord). h.held == 0) (record_or_none-place c.args.node c.args.records.now.items c.place_for-place.result c.index_mut.result.now at c.index_mut.ensures.value))
-
-pub returns-then-is_at-clause-records : goal.returns-then-is_at-clause-records
-returns-then-is_at-clause-records c =
-    let here : IsPlaceFor c.args.node c.args.records.now.items c.place_for-place.result = subst (λ (hs : List HandleRecord). IsPlaceFor c.args.node hs c.place_for-place.result) c.deref.ensures.value c.place_for-place.ensures in
-    let at = found_there c.args.node c.deref-2.result.now c.args.records.now.items c.place_for-place.result c.is_at.result here c.deref-2.ensures.value c.is_at.ensures.same c.is_at.ensures.within c.if-is_at.true in
-    ap (slice_set c.args.records.now.items c.place_for-place.result) (c.hold.ensures.held ∙ ap (more_held c.args.next) c.index_mut.ensures.value)
-    ∙ changed_or_made_set c.args.node (more_held c.args.next) c.args.records.now.items c.place_for-place.result c.index_mut.result.now here at.within (at.here c.index_mut.result.now)
-
-pub returns-then-is_at-clause-sound : goal.returns-then-is_at-clause-sound
-returns-then-is_at-clause-sound c = λ given is_next sound.
-    let here : IsPlaceFor c.args.node c.args.records.now.items c.place_for-place.result = subst (λ (hs : List HandleRecord). IsPlaceFor c.args.node hs c.place_for-place.result) c.deref.ensures.value c.place_for-place.ensures in
-    let at = found_there c.args.node c.deref-2.result.now c.args.records.now.items c.place_for-place.result c.is_at.result here c.deref-2.ensures.value c.is_at.ensures.same c.is_at.ensures.within c.if-is_at.true in
-    sound_more given c.place_for-place.result c.args.records.now.items c.index_mut.result.now c.hold.new.self at.within c.index_mut.ensures.value sound c.args.next c.hold.result.is_new is_next
-    c.hold.ensures.is_new (ap (λ (h : HandleRecord). h.node) c.hold.ensures.held) (ap (λ (h : HandleRecord). h.number) c.hold.ensures.held)
+pub returns-in-Some-clause-is_new : goal.returns-in-Some-clause-is_new
+returns-in-Some-clause-is_new c =
+    c.hold.ensures.is_new ∙ sym (ap (λ (h : HandleRecord). h.held == 0) (or_none_there c.args.node c.key_of.result c.args.records.now.entries c.key_of.ensures c.requires.keyed c.in-Some.handle.now (sym c.get_mut.ensures.value ∙ ap (λ o. option_copied_mut o) c.in-Some.is)))
 
 pub returns-clause-number : goal.returns-clause-number
 returns-clause-number c =
-    let here : IsPlaceFor c.args.node c.args.records.now.items c.place_for-place.result = subst (λ (hs : List HandleRecord). IsPlaceFor c.args.node hs c.place_for-place.result) c.deref.ensures.value c.place_for-place.ensures in
-    let other = other_there c.args.node c.deref-2.result.now c.args.records.now.items c.place_for-place.result c.is_at.result here c.deref-2.ensures.value c.is_at.ensures.same c.if-is_at.false in
-    let none = none_there c.args.records.now.items c.args.node c.place_for-place.result c.requires.ordered here other in
-    c.hold-held.ensures.number ∙ ap (λ (h : HandleRecord). unwrap_or h.number c.args.next) (c.new-handle.ensures ∙ sym (record_or_none-absent c.args.node c.args.records.now.items none))
+    c.hold-held.ensures.number ∙ ap (λ (h : HandleRecord). unwrap_or h.number c.args.next) c.new-handle.ensures ∙ sym (ap (λ (h : HandleRecord). unwrap_or h.number c.args.next) (or_none_absent c.args.node c.key_of.result c.args.records.now.entries c.key_of.ensures c.requires.keyed (sym c.get_mut.ensures.value ∙ ap (λ o. option_copied_mut o) c.in_default.is)))
 
 pub returns-clause-is_new : goal.returns-clause-is_new
 returns-clause-is_new c =
-    let here : IsPlaceFor c.args.node c.args.records.now.items c.place_for-place.result = subst (λ (hs : List HandleRecord). IsPlaceFor c.args.node hs c.place_for-place.result) c.deref.ensures.value c.place_for-place.ensures in
-    let other = other_there c.args.node c.deref-2.result.now c.args.records.now.items c.place_for-place.result c.is_at.result here c.deref-2.ensures.value c.is_at.ensures.same c.if-is_at.false in
-    let none = none_there c.args.records.now.items c.args.node c.place_for-place.result c.requires.ordered here other in
-    c.hold-held.ensures.is_new ∙ ap (λ (h : HandleRecord). h.held == 0) (c.new-handle.ensures ∙ sym (record_or_none-absent c.args.node c.args.records.now.items none))
+    c.hold-held.ensures.is_new ∙ ap (λ (h : HandleRecord). h.held == 0) c.new-handle.ensures ∙ sym (ap (λ (h : HandleRecord). h.held == 0) (or_none_absent c.args.node c.key_of.result c.args.records.now.entries c.key_of.ensures c.requires.keyed (sym c.get_mut.ensures.value ∙ ap (λ o. option_copied_mut o) c.in_default.is)))
+
+pub returns-in-Some-clause-keyed : goal.returns-in-Some-clause-keyed
+returns-in-Some-clause-keyed c =
+    keyed_by _ _
+    ((c.get_mut.follows.holds c.hold.new.self).0
+    ∙ made_there c.args.node c.key_of.result c.args.records.now.entries c.key_of.ensures c.requires.keyed (more_held c.args.next) (λ h. refl) c.in-Some.handle.now c.hold.new.self (sym c.get_mut.ensures.value ∙ ap (λ o. option_copied_mut o) c.in-Some.is) c.hold.ensures.held c.requires.ordered)
+
+pub returns-in-Some-clause-records : goal.returns-in-Some-clause-records
+returns-in-Some-clause-records c =
+    values_by _ _
+    ((c.get_mut.follows.holds c.hold.new.self).0
+    ∙ made_there c.args.node c.key_of.result c.args.records.now.entries c.key_of.ensures c.requires.keyed (more_held c.args.next) (λ h. refl) c.in-Some.handle.now c.hold.new.self (sym c.get_mut.ensures.value ∙ ap (λ o. option_copied_mut o) c.in-Some.is) c.hold.ensures.held c.requires.ordered)
+
+pub returns-clause-keyed : goal.returns-clause-keyed
+returns-clause-keyed c =
+    keyed_by _ _
+    (c.in_ok-insert.ensures.entries
+    ∙ ap (λ (m : BTreeMap (ℕ × ℕ) HandleRecord). insert_entry key_cmp m.entries c.key_of-2.result c.hold-held.new.self) c.get_mut.follows.holds-at-none
+    ∙ made_new c.args.node c.key_of-2.result c.args.records.now.entries c.key_of-2.ensures c.requires.keyed (more_held c.args.next) (λ h. refl) c.hold-held.new.self (sym (lookup_record c.args.node c.key_of.result c.args.records.now.entries c.key_of.ensures c.requires.keyed) ∙ (sym c.get_mut.ensures.value ∙ ap (λ o. option_copied_mut o) c.in_default.is)) (c.hold-held.ensures.held ∙ ap (more_held c.args.next) c.new-handle.ensures))
 
 pub returns-clause-records : goal.returns-clause-records
 returns-clause-records c =
-    let here : IsPlaceFor c.args.node c.args.records.now.items c.place_for-place.result = subst (λ (hs : List HandleRecord). IsPlaceFor c.args.node hs c.place_for-place.result) c.deref.ensures.value c.place_for-place.ensures in
-    let other = other_there c.args.node c.deref-2.result.now c.args.records.now.items c.place_for-place.result c.is_at.result here c.deref-2.ensures.value c.is_at.ensures.same c.if-is_at.false in
-    c.in_ok-insert.ensures.items
-    ∙ ap (insert c.args.records.now.items c.place_for-place.result) (c.hold-held.ensures.held ∙ ap (more_held c.args.next) c.new-handle.ensures)
-    ∙ changed_or_made_insert c.args.node (more_held c.args.next) c.args.records.now.items c.place_for-place.result (no_record c.args.node) here (λ lt. other lt (no_record c.args.node))
-
-pub returns-clause-sound : goal.returns-clause-sound
-returns-clause-sound c = λ given is_next sound.
-    let here : IsPlaceFor c.args.node c.args.records.now.items c.place_for-place.result = subst (λ (hs : List HandleRecord). IsPlaceFor c.args.node hs c.place_for-place.result) c.deref.ensures.value c.place_for-place.ensures in
-    let other = other_there c.args.node c.deref-2.result.now c.args.records.now.items c.place_for-place.result c.is_at.result here c.deref-2.ensures.value c.is_at.ensures.same c.if-is_at.false in
-    let new : c.hold-held.result.is_new ≡ true = c.hold-held.ensures.is_new ∙ ap (λ (h : HandleRecord). h.held == 0) c.new-handle.ensures in
-    subst (λ (b : Bool). IsSound (if b then given + 1 else given) c.insert.new.self.items) (sym new)
-    (subst (IsSound (given + 1)) (sym (c.in_ok-insert.ensures.items ∙ ap (insert c.args.records.now.items c.place_for-place.result) (c.hold-held.ensures.held ∙ ap (more_held c.args.next) c.new-handle.ensures)))
-    (sound_wired c.args.records.now.items c.args.node c.place_for-place.result given c.args.next c.requires.ordered here other is_next sound))
+    values_by _ _
+    (c.in_ok-insert.ensures.entries
+    ∙ ap (λ (m : BTreeMap (ℕ × ℕ) HandleRecord). insert_entry key_cmp m.entries c.key_of-2.result c.hold-held.new.self) c.get_mut.follows.holds-at-none
+    ∙ made_new c.args.node c.key_of-2.result c.args.records.now.entries c.key_of-2.ensures c.requires.keyed (more_held c.args.next) (λ h. refl) c.hold-held.new.self (sym (lookup_record c.args.node c.key_of.result c.args.records.now.entries c.key_of.ensures c.requires.keyed) ∙ (sym c.get_mut.ensures.value ∙ ap (λ o. option_copied_mut o) c.in_default.is)) (c.hold-held.ensures.held ∙ ap (more_held c.args.next) c.new-handle.ensures))
