@@ -8,7 +8,6 @@ use Rattle.std.proofs.lemmas.List.Sums.{sum_by-cons}
 use Rattle.b1_model.specs.Keys.{compare_keys}
 use Rattle.b1_model.specs.declared.naming.Key.{Key}
 use Rattle.b1_model.specs.declared.entries.Entry.{Entry}
-use Rattle.b1_model.specs.declared.entries.Entry.TheVariants.{Message, OwnNotice, ForeignNotice, ReleaseNotice}
 use Rattle.b1_model.specs.MachineTables.{put, without}
 use Rattle.b1_step.specs.Ordered.{Ascending, Behind, NewKey}
 use Rattle.b1_step.specs.Rights.{Has}
@@ -19,7 +18,7 @@ use Rattle.b1_entry.specs.Table.{entry_at}
 use Rattle.b1_peer_queue.specs.declared.wanted.Wanted.{Wanted}
 use Rattle.b1_peer_queue.specs.declared.wanted.Wanted.TheVariants.{Stage, Notice, Release}
 use Rattle.b1_peer_queue.specs.Mail.{count}
-use Rattle.b1_peer_queue.specs.Rows.{entry_or, is_marked, passes, row, shown}
+use Rattle.b1_peer_queue.specs.Rows.{entry_or, is_marked, name_wanted, passes, row, shown}
 use Rattle.b1_peer_queue.proofs.ListLemmas.{filter_same, filter_swap, has_all, length-middle, suc_plus}
 
 -- ---- lists of keys and places
@@ -158,14 +157,11 @@ module _ (slots : List (Option Entry)) where
       behind [] all = tt
       behind (x ∷ q) all = (before_from_less e.0 x.0 (All-head (λ x. compare_keys e.0 x.0 ≡ Less) x q all), behind q (All-tail (λ x. compare_keys e.0 x.0 ≡ Less) x q all))
 
--- what may be looked for is marked
-pub wanted_is_marked : (w : Wanted) (f : Key × Entry) → passes w f ≡ true → is_marked f ≡ true
-wanted_is_marked (Stage origin index) (k, e) h = grind (arith, h)
-wanted_is_marked (Notice origin) (k, e) h = grind (arith, h)
-wanted_is_marked (Release serial) (k, Message origin user index dest offset len nodes slots handles payload) h = absurd (cc h)
-wanted_is_marked (Release serial) (k, OwnNotice doomed index) h = absurd (cc h)
-wanted_is_marked (Release serial) (k, ForeignNotice node index) h = absurd (cc h)
-wanted_is_marked (Release serial) (k, ReleaseNotice mine) h = grind arith
+-- a notice that is looked for is marked
+pub notice_is_marked : (w : Wanted) (f : Key × Entry) → name_wanted w ≡ None → passes w f ≡ true → is_marked f ≡ true
+notice_is_marked (Stage origin index) (k, e) is h = absurd (cc is)
+notice_is_marked (Notice origin) (k, e) is h = grind (arith, h)
+notice_is_marked (Release serial) (k, e) is h = absurd (cc is)
 
 -- two tables that have the same at every listed place
 module _ (old new : List (Option Entry)) (q : List (Key × ℕ)) (same : All (λ e. entry_at new e.1 ≡ entry_at old e.1) q) where

@@ -18,6 +18,9 @@ use std::marker::Model;
 /// What waits at a peer: a queue of entries, of which the messages are charged to their users.
 ///
 /// Contracts see a `Mail`; `facts` says what is always so of it. Only `make` and `reserve` take memory.
+///
+/// A staged message, or a release notice, is found in a time of log n, and what its entry costs beyond that is what the queue
+/// of kind `Q` takes for it. `commit_notices` goes through the staged notices, once for each of the driver's.
 #[derive(Drop)]
 pub struct Mailbox<Q: QueueKind> {
     shelf: Shelf<Q>,

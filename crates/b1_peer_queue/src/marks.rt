@@ -4,9 +4,9 @@ ghost use Rattle.std.specs.declared.cmp.Ordering.TheVariants.{Less};
 ghost use Rattle.b1_model.specs.Keys.{compare_keys};
 ghost use Rattle.b1_queue.specs.Queue.{IsNewKey, is_before, with_entry, without};
 ghost use Rattle.b1_entry.specs.Table.{entry_at};
-ghost use Rattle.b1_peer_queue.specs.Rows.{is_marked as may_be_wanted, passes, row};
+ghost use Rattle.b1_peer_queue.specs.Rows.{is_marked, name_of as entry_name, passes, row};
 
-use crate::wanted::{Wanted, is_marked, is_wanted};
+use crate::wanted::{Wanted, is_staged_notice, is_wanted, name_of};
 use b1_entry::EntryTable;
 use b1_model::{Key, key_cmp};
 
@@ -43,7 +43,7 @@ fn mark(marks: &mut Vec<(Key, usize)>, key: Key, place: usize)
     }
 }
 
-/// Marks a place under its key, where it may be looked for.
+/// Marks a place under its key, where it is to be marked.
 pub fn mark_where(marks: &mut Vec<(Key, usize)>, marked: bool, key: Key, place: usize)
     requires room { vec_len marks.old < vec_capacity marks.old }
     requires ascending { AllPairs (λ a b. compare_keys a.0 b.0 ≡ Less) marks.old.items }
@@ -79,13 +79,24 @@ fn is_wanted_at(entries: &EntryTable, key: Key, place: usize, wanted: Wanted) ->
     }
 }
 
-/// Whether a place's entry may be looked for under a key.
+/// Whether a place's entry is a staged notice under a key.
 pub fn is_marked_at(entries: &EntryTable, key: Key, place: usize) -> bool
     requires { IsSome (entry_at entries.now.slots place) }
-    ensures { result ≡ may_be_wanted (row entries.now.slots (key, place)) }
+    ensures { result ≡ is_marked (row entries.now.slots (key, place)) }
 {
     match entries.get(place) {
-        Some(entry) => is_marked(&key, entry),
+        Some(entry) => is_staged_notice(&key, entry),
+        None => unreachable!(),
+    }
+}
+
+/// The name of a place's entry under a key.
+pub fn name_at(entries: &EntryTable, key: Key, place: usize) -> Option<Key>
+    requires { IsSome (entry_at entries.now.slots place) }
+    ensures { result ≡ entry_name (row entries.now.slots (key, place)) }
+{
+    match entries.get(place) {
+        Some(entry) => name_of(&key, entry),
         None => unreachable!(),
     }
 }
