@@ -1,6 +1,7 @@
 -- The names of entries, and what keeps them with the queue's list of places.
 use Rattle.std.proofs.Common.{◌≡◌, ◌≢◌, ◌==◌, refl, sym, ap, ◌∙◌, inl, inr, subst, ℕ, ◌+◌, ◌<◌, ◌≤◌, Bool, true, false, not, ◌&&◌, List, [], ◌∷◌, ◌++◌, length, get_or, find, filter, Option, Some, None, is_some, is_none, arith, add-one, add-zero}
 use Rattle.std.specs.Prelude.{All, AllPairs, option_map, if◌then◌else◌}
+use Rattle.std.specs.List.{AllWithin}
 use Rattle.std.specs.Option.{IfSome}
 use Rattle.std.specs.declared.cmp.Ordering.TheVariants.{Less}
 use Rattle.std.proofs.lemmas.Bool.{cases_Bool, cases_eq, eq-eqb, eqb-true, ne_eqb, false≢true}
@@ -16,7 +17,7 @@ use Rattle.b1_step.specs.Rights.{Has}
 use Rattle.b1_queue.specs.Queue.{IsNewItem, IsNewKey, IsQueue, is_before, key_of, restamped, with_entry, without as without_place}
 use Rattle.b1_queue.proofs.Order.{before_from_less, not_before_itself}
 use Rattle.b1_queue.proofs.Entries.{AllPairs-head, AllPairs-tail, IsNewItem-without, IsNewKey-without, IsQueue-filter, IsQueue-nil, IsQueue-with_entry, filter_all, split_is}
-use Rattle.b1_queue.proofs.Kept.{key_among, key_known}
+use Rattle.b1_queue.proofs.Kept.{key_among, key_known, stands_at, without_absent}
 use Rattle.b1_entry.specs.Table.{entry_at}
 use Rattle.b1_peer_queue.specs.Names.{CanName, Names, with_name, without_name}
 use Rattle.b1_peer_queue.specs.declared.wanted.Wanted.{Wanted}
@@ -514,3 +515,14 @@ module _ {spare : ℕ} {listed : List (Key × ℕ)} {slots : List (Option Entry)
 pub if_named : (names : Names) (place : ℕ) (o is : Option Key) → o ≡ is → ((name : Key) → is ≡ Some name → CanName names place name) → IfSome o (CanName names place)
 if_named names place None is same can = tt
 if_named names place (Some name) is same can = can name (sym same)
+
+-- a place that is not where its key would be is nowhere
+pub unmarked : (q : List (Key × ℕ)) (key : Key) (place at : ℕ) → AllPairs (λ a b. compare_keys a.0 b.0 ≡ Less) q → All (λ e. e.1 ≡ place → e.0 ≡ key) q → AllWithin (λ e. is_before e.0 key ≡ true) q 0 at → AllWithin (λ e. is_before e.0 key ≡ false) q at (length q) → (at < length q → (d : Key × ℕ) → (get_or q at d).1 ≢ place) → without_place place q ≡ q
+unmarked q key place at up keyed before after other = go (key_of place q) refl
+  where
+    go : (o : Option Key) → key_of place q ≡ o → without_place place q ≡ q
+    go None is = without_absent q place is
+    go (Some k) is =
+        let same : k ≡ key = has_all (λ (e : Key × ℕ). e.1 ≡ place → e.0 ≡ key) q (k, place) (key_has place k q is) keyed refl in
+        let stands = stands_at place q key at up (is ∙ ap (λ (x : Key). Some x) same) before after in
+        absurd (other stands.within (key, place) (ap (λ (e : Key × ℕ). e.1) (stands.here (key, place))))

@@ -12,12 +12,15 @@ use Rattle.b1_model.specs.declared.entries.Entry.{Entry}
 use Rattle.b1_model.specs.MachineTables.{put}
 use Rattle.b1_step.specs.Ordered.{NewKey}
 use Rattle.b1_step.specs.Rights.{Has}
-use Rattle.b1_queue.specs.Queue.{IsNewKey, IsQueue, restamped, with_entry, without as without_place}
+use Rattle.b1_queue.specs.Queue.{IsNewKey, IsQueue, key_of, restamped, with_entry, without as without_place}
 use Rattle.b1_queue.proofs.Entries.{IsNewItem-without, IsNewKey-without, IsQueue-filter}
 use Rattle.b1_entry.specs.Table.{Table, entry_at}
 use Rattle.b1_peer_queue.specs.Names.{Names}
 use Rattle.b1_peer_queue.specs.declared.wanted.Wanted.{Wanted}
-use Rattle.b1_peer_queue.specs.Rows.{IsNamed, IsTied, entry_or, is_marked, name_wanted, passes, row, shown}
+use Rattle.b1_peer_queue.specs.Rows.{IsNamed, IsTied, entry_or, is_marked, passes, row, shown}
+use Rattle.b1_peer_queue.specs.declared.wanted.Wanted.TheVariants.{Notice}
+use Rattle.b1_queue.proofs.Kept.{key_known}
+use Rattle.b1_peer_queue.proofs.NameLemmas.{find_there}
 use Rattle.b1_peer_queue.proofs.ListLemmas.{filter_swap, find_filter, find_mapped, find_passes, has_all, length-filter-le}
 use Rattle.b1_peer_queue.proofs.RowLemmas.{all_with_entry, filled_same, filter_with_entry, filter_without_entry, length-with_entry, length-without, marked_same, new_listed, shown-with_entry, shown_same, vacant_is_new, notice_is_marked}
 
@@ -38,11 +41,21 @@ module _ {spare len qs qr : ℕ} {listed : List (Key × ℕ)} {table : Table} {c
   pub marks_filled : All (λ e. IsSome (entry_at table.slots e.1)) marks
   marks_filled = rw tied.marked (All-filter (λ e. is_marked (row table.slots e)) (λ e. IsSome (entry_at table.slots e.1)) listed tied.filled)
 
-  -- a notice that is looked for is found among the marks
-  pub found_first : (w : Wanted) → name_wanted w ≡ None → find (λ e. passes w (row table.slots e)) marks ≡ find (λ e. passes w (row table.slots e)) listed
-  found_first w notice =
-      let test = λ (e : Key × ℕ). passes w (row table.slots e) in
-      ap (find test) tied.marked ∙ find_filter test (λ e. is_marked (row table.slots e)) (λ e h. notice_is_marked w (row table.slots e) notice h) listed
+  -- a driver's first notice is found among the marks
+  pub found_first : (origin : ℕ) → find (λ e. e.0.origin == origin) marks ≡ find (λ e. passes (Notice origin) (row table.slots e)) listed
+  found_first origin =
+      ap (find (λ e. e.0.origin == origin)) tied.marked
+      ∙ find_filter (λ e. e.0.origin == origin) (λ e. is_marked (row table.slots e)) (λ e. passes (Notice origin) (row table.slots e)) (λ e. notice_is_marked origin (row table.slots e)) listed
+
+  -- a place's mark has its key
+  pub marks_keyed : (key : Key) (place : ℕ) → Has listed (key, place) → All (λ e. e.1 ≡ place → e.0 ≡ key) marks
+  marks_keyed key place there =
+      rw tied.marked
+      (All-filter (λ e. is_marked (row table.slots e)) (λ e. e.1 ≡ place → e.0 ≡ key) listed
+      (λ k d lt same.
+      let known : key_of place listed ≡ Some (get_or listed k d).0 = key_known listed place order.distinct k d lt same in
+      let found : key_of place listed ≡ Some key = ap (option_map (λ (e : Key × ℕ). e.0)) (find_there place listed (key, place) order.distinct there refl) in
+      cc (sym known ∙ found)))
 
   pub found_shown : (w : Wanted) (r : Option (Key × ℕ)) → r ≡ find (λ e. passes w (row table.slots e)) listed → option_map (row table.slots) r ≡ find (passes w) (shown table.slots listed)
   found_shown w r is = ap (option_map (row table.slots)) is ∙ sym (find_mapped (row table.slots) (passes w) listed)

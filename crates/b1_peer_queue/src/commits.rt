@@ -36,7 +36,7 @@ fn restamp_in<Q: QueueKind>(rows: &mut Rows<Q>, key: Key, place: usize, new: Key
     ensures spare { rows.new.spare ≡ rows.old.spare }
 {
     rows.queue.restamp(place, new);
-    unmark(&mut rows.marks, place);
+    unmark(&mut rows.marks, key, place);
     let marked = is_marked_at(&rows.entries, new, place);
     mark_where(&mut rows.marks, marked, new, place);
     if name_at(&rows.entries, new, place).is_none() {

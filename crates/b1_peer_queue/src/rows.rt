@@ -1,15 +1,16 @@
 ghost use Rattle.std.specs.Prelude.{◌≡◌, ◌≤◌, ◌+◌, ◌<◌, [], Some, find, drop, is_some, OnOk, OnErr, slice_get, option_map, if◌then◌else◌, vec_capacity};
 ghost use Rattle.std.specs.Option.{IfSome};
-ghost use Rattle.b1_model.specs.MachineTables.{put as with_entry, without};
+ghost use Rattle.b1_model.specs.MachineTables.{put as with_entry, without, is_stage, is_staged_notice as is_notice_of};
+ghost use Rattle.b1_model.specs.MachineParts.{is_release_notice};
 ghost use Rattle.b1_step.specs.Ordered.{NewKey};
 ghost use Rattle.b1_step.specs.Rights.{Has};
 ghost use Rattle.b1_queue.specs.Queue.{without as without_place};
 ghost use Rattle.b1_peer_queue.specs.Mail.{count};
 ghost use Rattle.b1_peer_queue.specs.Rows.{IsNewName, IsTied, name_wanted as name_looked_for, passes, row, shown};
 
-use crate::marks::{first_wanted, mark_where, unmark};
+use crate::marks::{first_notice, mark_where, unmark};
 use crate::names::NameIndex;
-use crate::wanted::{Wanted, is_staged_notice, name_of, name_wanted};
+use crate::wanted::{Wanted, is_staged_notice, name_of, release_name, stage_name};
 use b1_entry::EntryTable;
 use b1_model::{Entry, Key};
 use b1_queue::QueueKind;
@@ -124,7 +125,7 @@ fn lift_out<Q: QueueKind>(rows: &mut Rows<Q>, key: Key, place: usize) -> Entry
     ensures spare { rows.new.spare ≡ rows.old.spare + 1 }
 {
     rows.queue.remove(place);
-    unmark(&mut rows.marks, place);
+    unmark(&mut rows.marks, key, place);
     rows.names.remove(place);
     let Some(entry) = rows.entries.remove(place) else {
         unreachable!()
@@ -148,6 +149,43 @@ fn named_at<Q: QueueKind>(rows: &Rows<Q>, wanted: Wanted, name: Key) -> Option<(
     Some((key, place))
 }
 
+/// The key and the place of the message that a driver has staged for a place.
+fn stage_at<Q: QueueKind>(rows: &Rows<Q>, origin: u32, index: u32) -> Option<(Key, usize)>
+    requires { IsTied rows.now.spare rows.now.len (Q.spare rows.now.queue) (Q.room rows.now.queue)
+        (Q.listed rows.now.queue) rows.now.entries
+        (vec_capacity rows.now.marks) rows.now.marks.items rows.now.names }
+    ensures { result ≡ find (λ e.
+        is_stage origin index (row rows.now.entries.slots e)) (Q.listed rows.now.queue) }
+{
+    named_at(
+        rows,
+        Wanted::Stage { origin, index },
+        stage_name(origin, index),
+    )
+}
+
+/// The key and the place of a node's release notice.
+fn release_at<Q: QueueKind>(rows: &Rows<Q>, serial: u32) -> Option<(Key, usize)>
+    requires { IsTied rows.now.spare rows.now.len (Q.spare rows.now.queue) (Q.room rows.now.queue)
+        (Q.listed rows.now.queue) rows.now.entries
+        (vec_capacity rows.now.marks) rows.now.marks.items rows.now.names }
+    ensures { result ≡ find (λ e.
+        is_release_notice serial (row rows.now.entries.slots e)) (Q.listed rows.now.queue) }
+{
+    named_at(rows, Wanted::Release { serial }, release_name(serial))
+}
+
+/// The key and the place of a driver's first staged notice.
+fn notice_at<Q: QueueKind>(rows: &Rows<Q>, origin: u32) -> Option<(Key, usize)>
+    requires { IsTied rows.now.spare rows.now.len (Q.spare rows.now.queue) (Q.room rows.now.queue)
+        (Q.listed rows.now.queue) rows.now.entries
+        (vec_capacity rows.now.marks) rows.now.marks.items rows.now.names }
+    ensures { result ≡ find (λ e.
+        is_notice_of origin (row rows.now.entries.slots e)) (Q.listed rows.now.queue) }
+{
+    first_notice(&rows.marks, origin)
+}
+
 /// The key and the place of what is looked for first.
 pub fn wanted_at<Q: QueueKind>(rows: &Rows<Q>, wanted: Wanted) -> Option<(Key, usize)>
     requires { IsTied rows.now.spare rows.now.len (Q.spare rows.now.queue) (Q.room rows.now.queue)
@@ -159,9 +197,10 @@ pub fn wanted_at<Q: QueueKind>(rows: &Rows<Q>, wanted: Wanted) -> Option<(Key, u
     ensures first { result ≡ find (λ e.
         passes wanted (row rows.now.entries.slots e)) (Q.listed rows.now.queue) }
 {
-    match name_wanted(wanted) {
-        Some(name) => named_at(rows, wanted, name),
-        None => first_wanted(&rows.marks, &rows.entries, wanted),
+    match wanted {
+        Wanted::Stage { origin, index } => stage_at(rows, origin, index),
+        Wanted::Notice { origin } => notice_at(rows, origin),
+        Wanted::Release { serial } => release_at(rows, serial),
     }
 }
 

@@ -1,6 +1,6 @@
 ghost use Rattle.std.specs.Prelude.{◌≡◌};
 ghost use Rattle.b1_model.specs.MachineParts.{is_data as is_message, is_odd as has_bit_0};
-ghost use Rattle.b1_peer_queue.specs.Rows.{is_marked, passes, name_of as entry_name, name_wanted as name_looked_for, release_name as name_of_release, stage_name as name_of_stage};
+ghost use Rattle.b1_peer_queue.specs.Rows.{is_marked, name_of as entry_name, release_name as name_of_release, stage_name as name_of_stage};
 
 use b1_model::{Entry, Key};
 
@@ -29,24 +29,6 @@ fn is_data(entry: &Entry) -> bool
     matches!(entry, Entry::Message { .. })
 }
 
-/// Whether an entry is what is looked for.
-pub fn is_wanted(wanted: Wanted, key: &Key, entry: &Entry) -> bool
-    ensures { result ≡ passes wanted (key.now, entry.now) }
-{
-    match wanted {
-        Wanted::Stage { origin, index } => {
-            is_data(entry) && is_odd(key.stamp) && key.origin == origin && key.index == index
-        }
-        Wanted::Notice { origin } => {
-            !is_data(entry) && is_odd(key.stamp) && key.origin == origin
-        }
-        Wanted::Release { serial } => match entry {
-            Entry::ReleaseNotice { serial: mine } => *mine == serial,
-            _ => false,
-        },
-    }
-}
-
 /// Whether an entry is a staged notice.
 pub fn is_staged_notice(key: &Key, entry: &Entry) -> bool
     ensures { result ≡ is_marked (key.now, entry.now) }
@@ -55,7 +37,7 @@ pub fn is_staged_notice(key: &Key, entry: &Entry) -> bool
 }
 
 /// The name of the message that a driver has staged for a place.
-fn stage_name(origin: u32, index: u32) -> Key
+pub fn stage_name(origin: u32, index: u32) -> Key
     ensures { result ≡ name_of_stage origin index }
 {
     Key {
@@ -66,24 +48,13 @@ fn stage_name(origin: u32, index: u32) -> Key
 }
 
 /// The name of a node's release notice.
-fn release_name(serial: u32) -> Key
+pub fn release_name(serial: u32) -> Key
     ensures { result ≡ name_of_release serial }
 {
     Key {
         stamp: 0,
         origin: 0,
         index: serial,
-    }
-}
-
-/// The name of what is looked for; `None` where there may be more than one.
-pub fn name_wanted(wanted: Wanted) -> Option<Key>
-    ensures { result ≡ name_looked_for wanted }
-{
-    match wanted {
-        Wanted::Stage { origin, index } => Some(stage_name(origin, index)),
-        Wanted::Notice { .. } => None,
-        Wanted::Release { serial } => Some(release_name(serial)),
     }
 }
 

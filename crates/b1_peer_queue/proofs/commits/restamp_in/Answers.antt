@@ -6,7 +6,7 @@ use Rattle.b1_peer_queue.specs.Rows.{name_of, row}
 use Rattle.b1_peer_queue.proofs.ListLemmas.{has_all}
 use Rattle.b1_peer_queue.proofs.RowLemmas.{key_there, new_listed}
 use Rattle.b1_peer_queue.proofs.NameLemmas.{named_dropped, named_still, none_from}
-use Rattle.b1_peer_queue.proofs.TiedLemmas.{marks_distinct, marks_left_ascend, marks_left_new, marks_left_fit, tied_restamped}
+use Rattle.b1_peer_queue.proofs.TiedLemmas.{marks_ascend, marks_distinct, marks_keyed, marks_left_ascend, marks_left_new, marks_left_fit, tied_restamped}
 use Rattle.b1_peer_queue.proofs.commits.restamp_in.Goals as goal
 
 pub restamp-requires-clause-there : goal.restamp-requires-clause-there
@@ -15,8 +15,14 @@ restamp-requires-clause-there g c = key_there c.args.key c.args.place _ c.requir
 pub restamp-requires-clause-new_key : goal.restamp-requires-clause-new_key
 restamp-requires-clause-new_key g c = new_listed c.args.rows.now.entries.slots c.args.new _ c.requires.new_key
 
-pub unmark-requires : goal.unmark-requires
-unmark-requires g c = marks_distinct c.requires.tied (g.met.Q.QueueKind.in_order c.args.rows.now.queue)
+pub unmark-requires-clause-ascending : goal.unmark-requires-clause-ascending
+unmark-requires-clause-ascending g c = marks_ascend c.requires.tied (g.met.Q.QueueKind.in_order c.args.rows.now.queue)
+
+pub unmark-requires-clause-distinct : goal.unmark-requires-clause-distinct
+unmark-requires-clause-distinct g c = marks_distinct c.requires.tied (g.met.Q.QueueKind.in_order c.args.rows.now.queue)
+
+pub unmark-requires-clause-key : goal.unmark-requires-clause-key
+unmark-requires-clause-key g c = marks_keyed c.requires.tied (g.met.Q.QueueKind.in_order c.args.rows.now.queue) c.args.key c.args.place c.requires.there
 
 pub mark_where-requires-clause-room : goal.mark_where-requires-clause-room
 mark_where-requires-clause-room g c =

@@ -5,11 +5,17 @@ use Rattle.b1_peer_queue.specs.Rows.{shown}
 use Rattle.b1_peer_queue.proofs.ListLemmas.{has_all}
 use Rattle.b1_peer_queue.proofs.RowLemmas.{key_there}
 use Rattle.b1_peer_queue.proofs.NameLemmas.{named_left}
-use Rattle.b1_peer_queue.proofs.TiedLemmas.{marks_distinct, shown_left, tied_left}
+use Rattle.b1_peer_queue.proofs.TiedLemmas.{marks_ascend, marks_distinct, marks_keyed, shown_left, tied_left}
 use Rattle.b1_peer_queue.proofs.rows.lift_out.Goals as goal
 
-pub unmark-requires : goal.unmark-requires
-unmark-requires g c = marks_distinct c.requires.tied (g.met.Q.QueueKind.in_order c.args.rows.now.queue)
+pub unmark-requires-clause-ascending : goal.unmark-requires-clause-ascending
+unmark-requires-clause-ascending g c = marks_ascend c.requires.tied (g.met.Q.QueueKind.in_order c.args.rows.now.queue)
+
+pub unmark-requires-clause-distinct : goal.unmark-requires-clause-distinct
+unmark-requires-clause-distinct g c = marks_distinct c.requires.tied (g.met.Q.QueueKind.in_order c.args.rows.now.queue)
+
+pub unmark-requires-clause-key : goal.unmark-requires-clause-key
+unmark-requires-clause-key g c = marks_keyed c.requires.tied (g.met.Q.QueueKind.in_order c.args.rows.now.queue) c.args.key c.args.place c.requires.there
 
 pub unreachable-requires : goal.unreachable-requires
 unreachable-requires g c =
