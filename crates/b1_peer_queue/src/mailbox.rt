@@ -19,8 +19,9 @@ use std::marker::Model;
 ///
 /// Contracts see a `Mail`; `facts` says what is always so of it. Only `make` and `reserve` take memory.
 ///
-/// A staged message, or a release notice, is found in a time of log n, and what its entry costs beyond that is what the queue
-/// of kind `Q` takes for it. `commit_notices` goes through the staged notices, once for each of the driver's.
+/// A staged message, or a release notice, is found in a time of log n; then the names on the shorter side of its own, and
+/// what the queue of kind `Q` moves, move by one. `commit_notices` goes through the keys of the staged notices, up to the
+/// driver's first, once for each notice of the driver's. The other calls take what `Q` takes.
 #[derive(Drop)]
 pub struct Mailbox<Q: QueueKind> {
     shelf: Shelf<Q>,

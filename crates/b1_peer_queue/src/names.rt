@@ -10,8 +10,8 @@ use std::marker::Model;
 
 /// The places of named entries, by their names.
 ///
-/// Only `reserve` takes memory. A look-up takes a time of log n; where a name comes or goes, the names on the shorter side of
-/// it move by one as well.
+/// Only `reserve` takes memory. A look-up takes a time of log n. Where a name comes or goes, the names on the shorter
+/// side of it move by one as well.
 #[derive(Drop)]
 pub struct NameIndex {
     places: PlainQueue,

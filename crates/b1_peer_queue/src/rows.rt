@@ -36,7 +36,8 @@ pub struct Rows<Q: QueueKind> {
 /// No rows. It takes no memory.
 pub fn make_rows<Q: QueueKind>(alloc: Global) -> Rows<Q>
     ensures tied { IsTied result.spare result.len (Q.spare result.queue) (Q.room result.queue)
-        (Q.listed result.queue) result.entries (vec_capacity result.marks) result.marks.items result.names }
+        (Q.listed result.queue) result.entries
+        (vec_capacity result.marks) result.marks.items result.names }
     ensures listed { Q.listed result.queue ≡ [] }
     ensures spare { result.spare ≡ 0 }
 {
