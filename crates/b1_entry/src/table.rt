@@ -8,7 +8,8 @@ use b1_model::Entry;
 use std::alloc::{AllocError, Global};
 use std::marker::Model;
 
-/// Entries by place. A place is a number that the table picks, and no entry moves until it is removed.
+/// Entries by place. A place is a number that the table picks, and no entry moves until it is removed. Every call takes a
+/// constant time but `reserve`, which takes one of each place that it opens.
 #[derive(Debug, Drop)]
 pub struct EntryTable {
     slots: Vec<Option<Entry>>,

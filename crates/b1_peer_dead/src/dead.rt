@@ -6,6 +6,7 @@ ghost use Rattle.b1_peer_dead.specs.Dead.{has_items};
 use crate::buffers::{add_buffers, gather, put_last};
 use b1_model::{Drops, MOST_HANDLES, NodeRef, Slot};
 use std::alloc::{AllocError, Global};
+use std::collections::VecDeque;
 use std::marker::Model;
 
 /// A peer's references to be given up: items in the order in which they came in, and buffers for further ones.
@@ -14,7 +15,7 @@ use std::marker::Model;
 /// and `lent` how many are out: for each of them there is a place in the list.
 #[derive(Debug, Drop)]
 pub struct DeadList {
-    items: Vec<Drops>,
+    items: VecDeque<Drops>,
     buffers: Vec<Vec<(NodeRef, u64)>>,
     lent: usize,
     alloc: Global,
@@ -24,6 +25,7 @@ impl Model for DeadList {
     ghost use Rattle.b1_model.specs.declared.limits.TheConstants.{MOST_HANDLES};
     ghost use Rattle.std.specs.Prelude.{◌≡◌, ◌+◌, ◌≤◌, [], All, vec_len};
     ghost use Rattle.std.specs.Vec.{vec_capacity};
+    ghost use Rattle.std.specs.VecDeque.{deque_len, deque_capacity};
     ghost use Rattle.b1_peer_dead.specs.Dead.{DeadSeen};
 
     ghost Value = { DeadSeen };
@@ -32,7 +34,7 @@ impl Model for DeadList {
 
     ghost invariant = { λ d. record {
       empty : All (λ b. (b.items ≡ []) × (MOST_HANDLES ≤ vec_capacity b)) d.buffers.items;
-      places : vec_len d.items + vec_len d.buffers + d.lent ≤ vec_capacity d.items;
+      places : deque_len d.items + vec_len d.buffers + d.lent ≤ deque_capacity d.items;
       back : vec_len d.buffers + d.lent ≤ vec_capacity d.buffers;
     } };
 }
@@ -43,7 +45,7 @@ impl DeadList {
         ensures { result ≡ record { items = []; room = 0; lent = 0 } }
     {
         DeadList {
-            items: Vec::new(alloc),
+            items: VecDeque::new(alloc),
             buffers: Vec::new(alloc),
             lent: 0,
             alloc,
@@ -104,7 +106,7 @@ impl DeadList {
         if item.is_empty() {
             put_last(&mut self.buffers, item);
         } else {
-            put_last(&mut self.items, Drops::from_vec(item));
+            self.items.push_back_reserved(Drops::from_vec(item));
         }
     }
 
@@ -137,14 +139,11 @@ impl DeadList {
         self.add(item);
     }
 
-    /// Removes the first item, and answers it; `None` where there is none.
+    /// Removes the first item, and answers it; `None` where there is none. The others stay where they are.
     pub fn reap(&mut self) -> Option<Drops>
         ensures first { result ≡ slice_get self.old.items 0 }
         ensures removed { self.new ≡ record self.old { items = drop 1 self.old.items } }
     {
-        if self.items.is_empty() {
-            return None;
-        }
-        Some(self.items.remove(0))
+        self.items.pop_front()
     }
 }

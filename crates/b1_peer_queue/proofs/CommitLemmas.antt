@@ -16,7 +16,9 @@ use Rattle.b1_queue.specs.Queue.{IsQueue, restamped, without as without_place}
 use Rattle.b1_queue.proofs.Entries.{IsNewItem-without, IsNewKey-without, IsQueue-filter}
 use Rattle.b1_entry.specs.Table.{Table, entry_at}
 use Rattle.b1_peer_queue.specs.Mail.{committed_queue, count}
-use Rattle.b1_peer_queue.specs.Rows.{IsTied, entry_or, is_marked, is_release, row, shown}
+use Rattle.b1_peer_queue.specs.Rows.{IsTied, entry_or, is_marked, name_of, row, shown}
+use Rattle.b1_peer_queue.specs.Names.{Names}
+use Rattle.b1_peer_queue.proofs.NameLemmas.{named_same}
 use Rattle.b1_peer_queue.proofs.ListLemmas.{filter_same, find_passes, has_all}
 use Rattle.b1_peer_queue.proofs.RowLemmas.{new_listed, shown-with_entry, shown-without, shown_same}
 
@@ -29,13 +31,19 @@ entry_set slots place entry there =
       | inr past ↦ let e = rw (get_or_past slots place None past) at there in absurd (cc e)
     ]
 
-same_release : (more : List Slot) (e : Entry) → is_release (with_slots more e) ≡ is_release e
-same_release more (Message origin user index serial offset len nodes slots handles payload) = refl
-same_release more (OwnNotice serial index) = refl
-same_release more (ForeignNotice node index) = refl
-same_release more (ReleaseNotice serial) = refl
+same_data : (more : List Slot) (e : Entry) → is_data (with_slots more e) ≡ is_data e
+same_data more (Message origin user index serial offset len nodes slots handles payload) = refl
+same_data more (OwnNotice serial index) = refl
+same_data more (ForeignNotice node index) = refl
+same_data more (ReleaseNotice serial) = refl
 
-module _ {spare len qs qr : ℕ} {listed : List (Key × ℕ)} {table : Table} {capacity : ℕ} {marks : List (Key × ℕ)} (tied : IsTied spare len qs qr listed table capacity marks) (key : Key) (place : ℕ) (there : Has listed (key, place)) (entry : Entry) (more : List Slot) (is : entry ≡ with_slots more (entry_or (entry_at table.slots place))) where
+same_name : (k : Key) (more : List Slot) (e : Entry) → name_of (k, with_slots more e) ≡ name_of (k, e)
+same_name k more (Message origin user index serial offset len nodes slots handles payload) = refl
+same_name k more (OwnNotice serial index) = refl
+same_name k more (ForeignNotice node index) = refl
+same_name k more (ReleaseNotice serial) = refl
+
+module _ {spare len qs qr : ℕ} {listed : List (Key × ℕ)} {table : Table} {capacity : ℕ} {marks : List (Key × ℕ)} {names : Names} (tied : IsTied spare len qs qr listed table capacity marks names) (order : IsQueue qr listed) (key : Key) (place : ℕ) (there : Has listed (key, place)) (entry : Entry) (more : List Slot) (is : entry ≡ with_slots more (entry_or (entry_at table.slots place))) where
   abbrev pub written : List (Option Entry)
   written = slice_set table.slots place (Some entry)
 
@@ -46,7 +54,7 @@ module _ {spare len qs qr : ℕ} {listed : List (Key × ℕ)} {table : Table} {c
   other_written other ne = get_or-set_other table.slots place other (Some entry) None ne
 
   -- the lists stay tied where a message gets its slots
-  pub tied_written : IsTied spare len qs qr listed (record { slots = written; spare = table.spare; room = table.room }) capacity marks
+  pub tied_written : IsTied spare len qs qr listed (record { slots = written; spare = table.spare; room = table.room }) capacity marks names
   tied_written = record {
     queue_fits = tied.queue_fits;
     table_fits = tied.table_fits;
@@ -60,9 +68,13 @@ module _ {spare len qs qr : ℕ} {listed : List (Key × ℕ)} {table : Table} {c
     marked =
         tied.marked
         ∙ sym (filter_same (λ e. is_marked (row written e)) (λ e. is_marked (row table.slots e)) listed (λ k d lt. elim (cases_eq (get_or listed k d).1 place) [
-          | inl at ↦ rw (at, here_written, is, same_release more (entry_or (entry_at table.slots place))) refl
+          | inl at ↦ rw (at, here_written, is, same_data more (entry_or (entry_at table.slots place))) refl
           | inr other ↦ rw (other_written (get_or listed k d).1 other) refl
         ]));
+    naming = named_same tied.naming order written (λ k d lt. elim (cases_eq (get_or listed k d).1 place) [
+      | inl at ↦ rw (at, here_written, is) (same_name (get_or listed k d).0 more (entry_or (entry_at table.slots place)))
+      | inr other ↦ rw (other_written (get_or listed k d).1 other) refl
+    ]);
   }
 
 -- ---- a message is committed

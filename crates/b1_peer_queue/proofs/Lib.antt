@@ -1,5 +1,6 @@
 pub mod ListLemmas
 pub mod RowLemmas
+pub mod NameLemmas
 pub mod TiedLemmas
 pub mod CommitLemmas
 pub mod NoticeLemmas

@@ -1,5 +1,5 @@
 -- Lists: elements and tests of them, filters one after another, and an element put among others.
-use Rattle.std.proofs.Common.{◌≡◌, refl, sym, ap, ◌∙◌, inl, inr, ℕ, zero, suc, ◌+◌, ◌<◌, ◌≤◌, Bool, true, not, List, [], ◌∷◌, ◌++◌, length, get_or, set, take, drop, map, filter, find, Some, None, arith, add-one}
+use Rattle.std.proofs.Common.{◌≡◌, refl, sym, ap, ◌∙◌, inl, inr, ℕ, zero, suc, ◌+◌, ◌<◌, ◌≤◌, Bool, true, not, ◌&&◌, List, [], ◌∷◌, ◌++◌, length, get_or, set, take, drop, map, filter, find, Some, None, arith, add-one}
 use Rattle.std.specs.Prelude.{All, option_map, slice_get}
 use Rattle.std.proofs.lemmas.Bool.{cases_Bool}
 use Rattle.std.proofs.lemmas.List.Elements.{All-head, All-tail}
@@ -29,13 +29,13 @@ module _ {X : Type 0} where
   filter_same p q (x ∷ xs) h =
       rw (All-head (λ x. p x ≡ q x) x xs h, filter_same p q xs (All-tail (λ x. p x ≡ q x) x xs h)) refl
 
-  -- what passes the one test passes the other
-  pub find_filter : (t p : X → Bool) → ((x : X) → t x ≡ true → p x ≡ true) → (xs : List X) → find t (filter p xs) ≡ find t xs
-  find_filter t p implied [] = refl
-  find_filter t p implied (x ∷ xs) =
-      elim (cases_Bool (t x)) [
-        | inl a ↦ rw (implied x a, a) refl
-        | inr a ↦ elim (cases_Bool (p x)) [ inl b ↦ rw (b, a) (find_filter t p implied xs) | inr b ↦ rw (b, a) (find_filter t p implied xs) ]
+  -- what passes both tests
+  pub find_filter : (t p s : X → Bool) → ((x : X) → s x ≡ (p x && t x)) → (xs : List X) → find t (filter p xs) ≡ find s xs
+  find_filter t p s both [] = refl
+  find_filter t p s both (x ∷ xs) =
+      elim (cases_Bool (p x)) [
+        | inl b ↦ elim (cases_Bool (t x)) [ inl a ↦ rw (both x, b, a) refl | inr a ↦ rw (both x, b, a) (find_filter t p s both xs) ]
+        | inr b ↦ rw (both x, b) (find_filter t p s both xs)
       ]
 
   -- what is found is there and passes

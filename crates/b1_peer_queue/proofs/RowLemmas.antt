@@ -1,5 +1,5 @@
 -- The rows of a queue: what a change of the listed places and of what stands at them makes of the queue of entries.
-use Rattle.std.proofs.Common.{◌≡◌, ◌≢◌, ◌==◌, refl, sym, ap, ◌∙◌, inl, inr, subst, ℕ, suc, ◌+◌, ◌≤◌, Bool, true, false, not, List, [], ◌∷◌, length, get_or, drop, map, filter, Option, Some, None, IsSome, arith, add-one}
+use Rattle.std.proofs.Common.{◌≡◌, ◌≢◌, ◌==◌, refl, sym, ap, ◌∙◌, inl, inr, subst, ℕ, suc, ◌+◌, ◌≤◌, Bool, true, false, not, ◌&&◌, List, [], ◌∷◌, length, get_or, drop, map, filter, Option, Some, None, IsSome, arith, add-one}
 use Rattle.std.specs.Prelude.{All, AllPairs, option_map, slice_get, if◌then◌else◌}
 use Rattle.std.specs.declared.cmp.Ordering.TheVariants.{Less}
 use Rattle.std.proofs.lemmas.Bool.{cases_Bool, eq-eqb, ne_eqb}
@@ -8,7 +8,7 @@ use Rattle.std.proofs.lemmas.List.Sums.{sum_by-cons}
 use Rattle.b1_model.specs.Keys.{compare_keys}
 use Rattle.b1_model.specs.declared.naming.Key.{Key}
 use Rattle.b1_model.specs.declared.entries.Entry.{Entry}
-use Rattle.b1_model.specs.declared.entries.Entry.TheVariants.{Message, OwnNotice, ForeignNotice, ReleaseNotice}
+use Rattle.b1_model.specs.MachineParts.{is_data, is_staged}
 use Rattle.b1_model.specs.MachineTables.{put, without}
 use Rattle.b1_step.specs.Ordered.{Ascending, Behind, NewKey}
 use Rattle.b1_step.specs.Rights.{Has}
@@ -16,8 +16,7 @@ use Rattle.b1_queue.specs.Queue.{IsNewItem, IsNewKey, is_before, key_of, with_en
 use Rattle.b1_queue.proofs.Order.{before_cases, before_from_less, keys_total, not_before}
 use Rattle.b1_queue.proofs.Entries.{AllPairs-head, AllPairs-tail, All-middle, filter_all, filter_none, split_is}
 use Rattle.b1_entry.specs.Table.{entry_at}
-use Rattle.b1_peer_queue.specs.declared.wanted.Wanted.{Wanted}
-use Rattle.b1_peer_queue.specs.declared.wanted.Wanted.TheVariants.{Stage, Notice, Release}
+use Rattle.b1_peer_queue.specs.declared.wanted.Wanted.TheVariants.{Notice}
 use Rattle.b1_peer_queue.specs.Mail.{count}
 use Rattle.b1_peer_queue.specs.Rows.{entry_or, is_marked, passes, row, shown}
 use Rattle.b1_peer_queue.proofs.ListLemmas.{filter_same, filter_swap, has_all, length-middle, suc_plus}
@@ -158,14 +157,15 @@ module _ (slots : List (Option Entry)) where
       behind [] all = tt
       behind (x ∷ q) all = (before_from_less e.0 x.0 (All-head (λ x. compare_keys e.0 x.0 ≡ Less) x q all), behind q (All-tail (λ x. compare_keys e.0 x.0 ≡ Less) x q all))
 
--- what may be looked for is marked
-pub wanted_is_marked : (w : Wanted) (f : Key × Entry) → passes w f ≡ true → is_marked f ≡ true
-wanted_is_marked (Stage origin index) (k, e) h = grind (arith, h)
-wanted_is_marked (Notice origin) (k, e) h = grind (arith, h)
-wanted_is_marked (Release serial) (k, Message origin user index dest offset len nodes slots handles payload) h = absurd (cc h)
-wanted_is_marked (Release serial) (k, OwnNotice doomed index) h = absurd (cc h)
-wanted_is_marked (Release serial) (k, ForeignNotice node index) h = absurd (cc h)
-wanted_is_marked (Release serial) (k, ReleaseNotice mine) h = grind arith
+-- a driver's notices are marked
+and_swap : (a b : Bool) → (a && b) ≡ (b && a)
+and_swap true true = refl
+and_swap true false = refl
+and_swap false true = refl
+and_swap false false = refl
+
+pub notice_is_marked : (origin : ℕ) (f : Key × Entry) → passes (Notice origin) f ≡ (is_marked f && (f.0.origin == origin))
+notice_is_marked origin f = ap (λ b. b && (f.0.origin == origin)) (and_swap (not (is_data f.1)) (is_staged f))
 
 -- two tables that have the same at every listed place
 module _ (old new : List (Option Entry)) (q : List (Key × ℕ)) (same : All (λ e. entry_at new e.1 ≡ entry_at old e.1) q) where

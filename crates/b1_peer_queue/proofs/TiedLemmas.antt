@@ -1,5 +1,5 @@
 -- What keeps the lists of a queue of entries tied.
-use Rattle.std.proofs.Common.{◌≡◌, ◌≢◌, ◌==◌, refl, sym, ap, ◌∙◌, inl, inr, ℕ, ◌+◌, ◌-◌, ◌<◌, ◌≤◌, true, not, List, length, get_or, filter, find, Option, Some, None, IsSome, arith}
+use Rattle.std.proofs.Common.{◌≡◌, ◌≢◌, ◌==◌, refl, sym, ap, ◌∙◌, inl, inr, ℕ, ◌+◌, ◌-◌, ◌<◌, ◌≤◌, not, List, length, get_or, filter, find, Option, Some, None, IsSome, arith}
 use Rattle.std.specs.Prelude.{All, AllPairs, option_map, if◌then◌else◌}
 use Rattle.std.specs.Option.{IfSome}
 use Rattle.std.specs.declared.cmp.Ordering.TheVariants.{Less}
@@ -12,16 +12,19 @@ use Rattle.b1_model.specs.declared.entries.Entry.{Entry}
 use Rattle.b1_model.specs.MachineTables.{put}
 use Rattle.b1_step.specs.Ordered.{NewKey}
 use Rattle.b1_step.specs.Rights.{Has}
-use Rattle.b1_step.proofs.Lists.{filter_has}
-use Rattle.b1_queue.specs.Queue.{IsNewKey, IsQueue, restamped, with_entry, without as without_place}
+use Rattle.b1_queue.specs.Queue.{IsNewKey, IsQueue, key_of, restamped, with_entry, without as without_place}
 use Rattle.b1_queue.proofs.Entries.{IsNewItem-without, IsNewKey-without, IsQueue-filter}
 use Rattle.b1_entry.specs.Table.{Table, entry_at}
+use Rattle.b1_peer_queue.specs.Names.{Names}
 use Rattle.b1_peer_queue.specs.declared.wanted.Wanted.{Wanted}
-use Rattle.b1_peer_queue.specs.Rows.{IsTied, entry_or, is_marked, passes, row, shown}
+use Rattle.b1_peer_queue.specs.Rows.{IsNamed, IsTied, entry_or, is_marked, passes, row, shown}
+use Rattle.b1_peer_queue.specs.declared.wanted.Wanted.TheVariants.{Notice}
+use Rattle.b1_queue.proofs.Kept.{key_known}
+use Rattle.b1_peer_queue.proofs.NameLemmas.{find_there}
 use Rattle.b1_peer_queue.proofs.ListLemmas.{filter_swap, find_filter, find_mapped, find_passes, has_all, length-filter-le}
-use Rattle.b1_peer_queue.proofs.RowLemmas.{all_with_entry, filled_same, filter_with_entry, filter_without_entry, length-with_entry, length-without, marked_same, new_listed, shown-with_entry, shown_same, vacant_is_new, wanted_is_marked}
+use Rattle.b1_peer_queue.proofs.RowLemmas.{all_with_entry, filled_same, filter_with_entry, filter_without_entry, length-with_entry, length-without, marked_same, new_listed, shown-with_entry, shown_same, vacant_is_new, notice_is_marked}
 
-module _ {spare len qs qr : ℕ} {listed : List (Key × ℕ)} {table : Table} {capacity : ℕ} {marks : List (Key × ℕ)} (tied : IsTied spare len qs qr listed table capacity marks) (order : IsQueue qr listed) where
+module _ {spare len qs qr : ℕ} {listed : List (Key × ℕ)} {table : Table} {capacity : ℕ} {marks : List (Key × ℕ)} {names : Names} (tied : IsTied spare len qs qr listed table capacity marks names) (order : IsQueue qr listed) where
   -- the marks are in order, and there are no more of them than entries
   pub marks_ascend : AllPairs (λ a b. compare_keys a.0 b.0 ≡ Less) marks
   marks_ascend = rw tied.marked (IsQueue-filter qr (λ e. is_marked (row table.slots e)) listed order).ascending
@@ -38,25 +41,28 @@ module _ {spare len qs qr : ℕ} {listed : List (Key × ℕ)} {table : Table} {c
   pub marks_filled : All (λ e. IsSome (entry_at table.slots e.1)) marks
   marks_filled = rw tied.marked (All-filter (λ e. is_marked (row table.slots e)) (λ e. IsSome (entry_at table.slots e.1)) listed tied.filled)
 
-  -- what is looked for is found among the marks
-  pub found_first : (w : Wanted) → find (λ e. passes w (row table.slots e)) marks ≡ find (λ e. passes w (row table.slots e)) listed
-  found_first w =
-      let test = λ (e : Key × ℕ). passes w (row table.slots e) in
-      ap (find test) tied.marked ∙ find_filter test (λ e. is_marked (row table.slots e)) (λ e h. wanted_is_marked w (row table.slots e) h) listed
+  -- a driver's first notice is found among the marks
+  pub found_first : (origin : ℕ) → find (λ e. e.0.origin == origin) marks ≡ find (λ e. passes (Notice origin) (row table.slots e)) listed
+  found_first origin =
+      ap (find (λ e. e.0.origin == origin)) tied.marked
+      ∙ find_filter (λ e. e.0.origin == origin) (λ e. is_marked (row table.slots e)) (λ e. passes (Notice origin) (row table.slots e)) (λ e. notice_is_marked origin (row table.slots e)) listed
 
-  pub found_shown : (w : Wanted) → find (passes w) (shown table.slots listed) ≡ option_map (row table.slots) (find (λ e. passes w (row table.slots e)) marks)
-  found_shown w =
-      find_mapped (row table.slots) (passes w) listed ∙ ap (option_map (row table.slots)) (sym (found_first w))
+  -- a place's mark has its key
+  pub marks_keyed : (key : Key) (place : ℕ) → Has listed (key, place) → All (λ e. e.1 ≡ place → e.0 ≡ key) marks
+  marks_keyed key place there =
+      rw tied.marked
+      (All-filter (λ e. is_marked (row table.slots e)) (λ e. e.1 ≡ place → e.0 ≡ key) listed
+      (λ k d lt same.
+      let known : key_of place listed ≡ Some (get_or listed k d).0 = key_known listed place order.distinct k d lt same in
+      let found : key_of place listed ≡ Some key = ap (option_map (λ (e : Key × ℕ). e.0)) (find_there place listed (key, place) order.distinct there refl) in
+      cc (sym known ∙ found)))
 
-  pub found_there : (w : Wanted) (e : Key × ℕ) → find (λ e. passes w (row table.slots e)) marks ≡ Some e → Has listed e × (passes w (row table.slots e) ≡ true)
-  found_there w e is =
-      let here = find_passes (λ (e : Key × ℕ). passes w (row table.slots e)) marks e is in
-      let kept = rw tied.marked at here.0 in
-      ((filter_has (λ e. is_marked (row table.slots e)) listed e kept).0, here.1)
+  pub found_shown : (w : Wanted) (r : Option (Key × ℕ)) → r ≡ find (λ e. passes w (row table.slots e)) listed → option_map (row table.slots) r ≡ find (passes w) (shown table.slots listed)
+  found_shown w r is = ap (option_map (row table.slots)) is ∙ sym (find_mapped (row table.slots) (passes w) listed)
 
-  pub found_listed : (w : Wanted) (r : Option (Key × ℕ)) → r ≡ find (λ e. passes w (row table.slots e)) marks → IfSome r (λ e. Has listed e)
+  pub found_listed : (w : Wanted) (r : Option (Key × ℕ)) → r ≡ find (λ e. passes w (row table.slots e)) listed → IfSome r (λ e. Has listed e)
   found_listed w None is = tt
-  found_listed w (Some e) is = (found_there w e (sym is)).0
+  found_listed w (Some e) is = (find_passes (λ (e : Key × ℕ). passes w (row table.slots e)) listed e (sym is)).0
 
   -- one entry more, at a place that was vacant
   module _ (key : Key) (entry : Entry) (place : ℕ) (slots : List (Option Entry)) (new : NewKey key (shown table.slots listed)) (vacant : entry_at table.slots place ≡ None) (here : entry_at slots place ≡ Some entry) (others : (other : ℕ) → other ≢ place → entry_at slots other ≡ entry_at table.slots other) where
@@ -78,8 +84,8 @@ module _ {spare len qs qr : ℕ} {listed : List (Key × ℕ)} {table : Table} {c
           | inr is ↦ rw is (sym same ∙ sym (filter_without_entry key place (λ e. is_marked (row slots e)) listed order.ascending (new_listed table.slots key listed new) (ap is_marked at ∙ is)))
         ]
 
-    pub tied_put : (s r : ℕ) → 0 < spare → s + 1 ≡ table.spare → r ≡ table.room → (qs' qr' : ℕ) → qs' + 1 ≡ qs → qr' ≡ qr → (listed' : List (Key × ℕ)) → listed' ≡ with_entry key place listed → (capacity' : ℕ) → capacity' ≡ capacity → (marks' : List (Key × ℕ)) → marks' ≡ (if is_marked (key, entry) then with_entry key place marks else marks) → IsTied (spare - 1) (len + 1) qs' qr' listed' (record { slots = slots; spare = s; room = r }) capacity' marks'
-    tied_put s r some spare_is room_is qs' qr' qs_is qr_is listed' listed_is capacity' capacity_is marks' marks_are =
+    pub tied_put : (s r : ℕ) → 0 < spare → s + 1 ≡ table.spare → r ≡ table.room → (qs' qr' : ℕ) → qs' + 1 ≡ qs → qr' ≡ qr → (listed' : List (Key × ℕ)) → listed' ≡ with_entry key place listed → (capacity' : ℕ) → capacity' ≡ capacity → (marks' : List (Key × ℕ)) → marks' ≡ (if is_marked (key, entry) then with_entry key place marks else marks) → (names' : Names) → IsNamed (spare - 1) (with_entry key place listed) slots r names' → IsTied (spare - 1) (len + 1) qs' qr' listed' (record { slots = slots; spare = s; room = r }) capacity' marks' names'
+    tied_put s r some spare_is room_is qs' qr' qs_is qr_is listed' listed_is capacity' capacity_is marks' marks_are names' naming =
         let up = new_listed table.slots key listed new in
         record {
           queue_fits = omega (arith, tied.queue_fits, qs_is, some);
@@ -89,6 +95,7 @@ module _ {spare len qs qr : ℕ} {listed : List (Key × ℕ)} {table : Table} {c
           counted = rw listed_is (omega (arith, tied.counted, length-with_entry key place listed order.ascending up));
           filled = rw listed_is (all_with_entry key place (λ e. IsSome (entry_at slots e.1)) listed order.ascending up (rw here refl) (filled_same table.slots slots listed same_listed tied.filled));
           marked = rw listed_is (marks_are ∙ marked_put);
+          naming = rw listed_is naming;
         }
 
   -- the entry at a place leaves
@@ -99,8 +106,8 @@ module _ {spare len qs qr : ℕ} {listed : List (Key × ℕ)} {table : Table} {c
     pub shown_left : shown slots (without_place place listed) ≡ shown table.slots (without_place place listed)
     shown_left = shown_same table.slots slots (without_place place listed) same_left
 
-    pub tied_left : (s r : ℕ) → s ≡ table.spare + 1 → r ≡ table.room → (qs' qr' : ℕ) → qs' ≡ qs + 1 → qr' ≡ qr → (listed' : List (Key × ℕ)) → listed' ≡ without_place place listed → (capacity' : ℕ) → capacity' ≡ capacity → (marks' : List (Key × ℕ)) → marks' ≡ without_place place marks → IsTied (spare + 1) (len - 1) qs' qr' listed' (record { slots = slots; spare = s; room = r }) capacity' marks'
-    tied_left s r spare_is room_is qs' qr' qs_is qr_is listed' listed_is capacity' capacity_is marks' marks_are =
+    pub tied_left : (s r : ℕ) → s ≡ table.spare + 1 → r ≡ table.room → (qs' qr' : ℕ) → qs' ≡ qs + 1 → qr' ≡ qr → (listed' : List (Key × ℕ)) → listed' ≡ without_place place listed → (capacity' : ℕ) → capacity' ≡ capacity → (marks' : List (Key × ℕ)) → marks' ≡ without_place place marks → (names' : Names) → IsNamed (spare + 1) (without_place place listed) slots r names' → IsTied (spare + 1) (len - 1) qs' qr' listed' (record { slots = slots; spare = s; room = r }) capacity' marks' names'
+    tied_left s r spare_is room_is qs' qr' qs_is qr_is listed' listed_is capacity' capacity_is marks' marks_are names' naming =
         let shorter = length-without key place listed order.distinct there in
         record {
           queue_fits = omega (arith, tied.queue_fits, qs_is);
@@ -115,6 +122,7 @@ module _ {spare len qs qr : ℕ} {listed : List (Key × ℕ)} {table : Table} {c
               ∙ ap (without_place place) tied.marked
               ∙ filter_swap (λ e. not (e.1 == place)) (λ e. is_marked (row table.slots e)) listed
               ∙ sym (marked_same table.slots slots (without_place place listed) same_left));
+          naming = rw listed_is naming;
         }
 
   -- the entry at a place gets another key
@@ -153,8 +161,8 @@ module _ {spare len qs qr : ℕ} {listed : List (Key × ℕ)} {table : Table} {c
         let shorter = length-without key place listed order.distinct there in
         omega (arith, fewer, shorter, tied.counted, tied.marks_fit)
 
-    pub tied_restamped : (qs' qr' : ℕ) → qs' ≡ qs → qr' ≡ qr → (listed' : List (Key × ℕ)) → listed' ≡ restamped place new listed → (capacity' : ℕ) → capacity' ≡ capacity → (marks' : List (Key × ℕ)) → marks' ≡ (if is_marked (row table.slots (new, place)) then with_entry new place (without_place place marks) else without_place place marks) → IsTied spare len qs' qr' listed' table capacity' marks'
-    tied_restamped qs' qr' qs_is qr_is listed' listed_is capacity' capacity_is marks' marks_are =
+    pub tied_restamped : (qs' qr' : ℕ) → qs' ≡ qs → qr' ≡ qr → (listed' : List (Key × ℕ)) → listed' ≡ restamped place new listed → (capacity' : ℕ) → capacity' ≡ capacity → (marks' : List (Key × ℕ)) → marks' ≡ (if is_marked (row table.slots (new, place)) then with_entry new place (without_place place marks) else without_place place marks) → (names' : Names) → IsNamed spare (restamped place new listed) table.slots table.room names' → IsTied spare len qs' qr' listed' table capacity' marks' names'
+    tied_restamped qs' qr' qs_is qr_is listed' listed_is capacity' capacity_is marks' marks_are names' naming =
         let shorter = length-without key place listed order.distinct there in
         record {
           queue_fits = omega (arith, tied.queue_fits, qs_is);
@@ -168,4 +176,5 @@ module _ {spare len qs qr : ℕ} {listed : List (Key × ℕ)} {table : Table} {c
               (has_all (λ e. IsSome (entry_at table.slots e.1)) listed (key, place) there tied.filled)
               (All-filter (λ e. not (e.1 == place)) (λ e. IsSome (entry_at table.slots e.1)) listed tied.filled));
           marked = rw listed_is (marks_are ∙ marked_restamped);
+          naming = rw listed_is naming;
         }

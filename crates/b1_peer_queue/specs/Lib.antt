@@ -10,3 +10,4 @@ pub use Rattle.b1_queue.specs.Queue
 pub use Rattle.b1_quota.specs.Accounts
 pub use Rattle.b1_step.specs.Ordered
 pub use Rattle.b1_step.specs.Rights
+pub mod Names

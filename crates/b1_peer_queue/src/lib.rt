@@ -6,6 +6,7 @@ mod commits;
 mod mailbox;
 mod marks;
 mod messages;
+mod names;
 mod rows;
 mod shelf;
 mod wanted;

@@ -18,6 +18,10 @@ use std::marker::Model;
 /// What waits at a peer: a queue of entries, of which the messages are charged to their users.
 ///
 /// Contracts see a `Mail`; `facts` says what is always so of it. Only `make` and `reserve` take memory.
+///
+/// A staged message, or a release notice, is found in a time of log n; then the names on the shorter side of its own, and
+/// what the queue of kind `Q` moves, move by one. `commit_notices` goes through the keys of the staged notices, up to the
+/// driver's first, once for each notice of the driver's. The other calls take what `Q` takes.
 #[derive(Drop)]
 pub struct Mailbox<Q: QueueKind> {
     shelf: Shelf<Q>,

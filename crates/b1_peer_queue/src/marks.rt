@@ -1,12 +1,12 @@
-ghost use Rattle.std.specs.Prelude.{◌≡◌, ◌≢◌, ◌<◌, ◌≤◌, ◌==◌, find, length, position, true, false, AllPairs, All, IsSome, vec_len, vec_capacity, if◌then◌else◌};
+ghost use Rattle.std.specs.Prelude.{◌≡◌, ◌≢◌, ◌<◌, ◌≤◌, ◌==◌, find, length, true, false, AllPairs, All, IsSome, vec_len, vec_capacity, if◌then◌else◌};
 ghost use Rattle.std.specs.List.{AllWithin};
 ghost use Rattle.std.specs.declared.cmp.Ordering.TheVariants.{Less};
 ghost use Rattle.b1_model.specs.Keys.{compare_keys};
 ghost use Rattle.b1_queue.specs.Queue.{IsNewKey, is_before, with_entry, without};
 ghost use Rattle.b1_entry.specs.Table.{entry_at};
-ghost use Rattle.b1_peer_queue.specs.Rows.{is_marked as may_be_wanted, passes, row};
+ghost use Rattle.b1_peer_queue.specs.Rows.{is_marked, name_of as entry_name, row};
 
-use crate::wanted::{Wanted, is_marked, is_wanted};
+use crate::wanted::{is_staged_notice, name_of};
 use b1_entry::EntryTable;
 use b1_model::{Key, key_cmp};
 
@@ -19,13 +19,6 @@ fn place_of(marks: &[(Key, usize)], key: &Key) -> usize
         ≡ false) marks.now result (length marks.now) }
 {
     marks.partition_point(|e| key_cmp(&e.0, key).is_lt())
-}
-
-/// Where the mark of a place stands.
-fn index_of(marks: &[(Key, usize)], place: usize) -> Option<usize>
-    ensures { result ≡ position (λ e. e.1 == place) marks.now }
-{
-    marks.iter().position(|e| e.1 == place)
 }
 
 /// Marks a place under its key.
@@ -43,7 +36,7 @@ fn mark(marks: &mut Vec<(Key, usize)>, key: Key, place: usize)
     }
 }
 
-/// Marks a place under its key, where it may be looked for.
+/// Marks a place under its key, where it is to be marked.
 pub fn mark_where(marks: &mut Vec<(Key, usize)>, marked: bool, key: Key, place: usize)
     requires room { vec_len marks.old < vec_capacity marks.old }
     requires ascending { AllPairs (λ a b. compare_keys a.0 b.0 ≡ Less) marks.old.items }
@@ -57,50 +50,51 @@ pub fn mark_where(marks: &mut Vec<(Key, usize)>, marked: bool, key: Key, place: 
     }
 }
 
-/// Takes the mark of a place away, if it has one.
-pub fn unmark(marks: &mut Vec<(Key, usize)>, place: usize)
-    requires { AllPairs (λ a b. a.1 ≢ b.1) marks.old.items }
+/// Takes the mark of a place away, if it has one under its key.
+pub fn unmark(marks: &mut Vec<(Key, usize)>, key: Key, place: usize)
+    requires ascending { AllPairs (λ a b. compare_keys a.0 b.0 ≡ Less) marks.old.items }
+    requires distinct { AllPairs (λ a b. a.1 ≢ b.1) marks.old.items }
+    requires key { All (λ e. e.1 ≡ place → e.0 ≡ key) marks.old.items }
     ensures marks { marks.new.items ≡ without place marks.old.items }
     ensures capacity { vec_capacity marks.new ≡ vec_capacity marks.old }
 {
-    if let Some(at) = index_of(marks, place) {
+    let at = place_of(marks, &key);
+    let Some((_, there)) = marks.get(at) else {
+        return;
+    };
+    if *there == place {
         marks.remove(at);
     }
 }
 
-/// Whether a place's entry is what is looked for.
-fn is_wanted_at(entries: &EntryTable, key: Key, place: usize, wanted: Wanted) -> bool
-    requires { IsSome (entry_at entries.now.slots place) }
-    ensures { result ≡ passes wanted (row entries.now.slots (key, place)) }
-{
-    match entries.get(place) {
-        Some(entry) => is_wanted(wanted, &key, entry),
-        None => unreachable!(),
-    }
-}
-
-/// Whether a place's entry may be looked for under a key.
+/// Whether a place's entry is a staged notice under a key.
 pub fn is_marked_at(entries: &EntryTable, key: Key, place: usize) -> bool
     requires { IsSome (entry_at entries.now.slots place) }
-    ensures { result ≡ may_be_wanted (row entries.now.slots (key, place)) }
+    ensures { result ≡ is_marked (row entries.now.slots (key, place)) }
 {
     match entries.get(place) {
-        Some(entry) => is_marked(&key, entry),
+        Some(entry) => is_staged_notice(&key, entry),
         None => unreachable!(),
     }
 }
 
-/// The first mark whose entry is what is looked for.
-pub fn first_wanted(
-    marks: &[(Key, usize)],
-    entries: &EntryTable,
-    wanted: Wanted,
-) -> Option<(Key, usize)>
-    requires { All (λ e. IsSome (entry_at entries.now.slots e.1)) marks.now }
-    ensures { result ≡ find (λ e. passes wanted (row entries.now.slots e)) marks.now }
+/// The name of a place's entry under a key.
+pub fn name_at(entries: &EntryTable, key: Key, place: usize) -> Option<Key>
+    requires { IsSome (entry_at entries.now.slots place) }
+    ensures { result ≡ entry_name (row entries.now.slots (key, place)) }
+{
+    match entries.get(place) {
+        Some(entry) => name_of(&key, entry),
+        None => unreachable!(),
+    }
+}
+
+/// The first mark of a driver's.
+pub fn first_notice(marks: &[(Key, usize)], origin: u32) -> Option<(Key, usize)>
+    ensures { result ≡ find (λ e. e.0.origin == origin) marks.now }
 {
     for (key, place) in marks {
-        if is_wanted_at(entries, *key, *place, wanted) {
+        if key.origin == origin {
             return Some((*key, *place));
         }
     }

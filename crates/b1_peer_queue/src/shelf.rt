@@ -5,7 +5,7 @@ ghost use Rattle.b1_model.specs.MachineParts.{is_odd};
 ghost use Rattle.b1_model.specs.MachineTables.{put as with_entry, without, is_stage};
 ghost use Rattle.b1_peer_queue.specs.Mail.{count, DistinctIndexes, NewUnder, committed_queue, notices_queue, staged_notices};
 ghost use Rattle.b1_peer_queue.specs.Charged.{HasSlots};
-ghost use Rattle.b1_peer_queue.specs.Rows.{passes};
+ghost use Rattle.b1_peer_queue.specs.Rows.{IsNewName, passes};
 
 use crate::commits::{commit_in, commit_notices_in};
 use crate::rows::{
@@ -38,7 +38,7 @@ impl<Q: QueueKind> Model for Shelf<Q> {
 
     ghost invariant = { λ s. IsTied s.rows.spare s.rows.len (Q.spare s.rows.queue)
         (Q.room s.rows.queue) (Q.listed s.rows.queue) s.rows.entries
-        (vec_capacity s.rows.marks) s.rows.marks.items };
+        (vec_capacity s.rows.marks) s.rows.marks.items s.rows.names };
 }
 
 impl<Q: QueueKind> Shelf<Q> {
@@ -69,10 +69,11 @@ impl<Q: QueueKind> Shelf<Q> {
         reserve_rows(&mut self.rows, n)
     }
 
-    /// Puts an entry under its key.
+    /// Puts an entry under its key. No entry has its name, where it has one.
     pub fn put(&mut self, key: Key, entry: Entry)
         requires spare { 0 < self.old.spare }
         requires new_key { NewKey key self.old.queue }
+        requires new_name { IsNewName key entry self.old.queue }
         ensures queue { self.new.queue ≡ with_entry key entry self.old.queue }
         ensures spare { self.new.spare + 1 ≡ self.old.spare }
     {

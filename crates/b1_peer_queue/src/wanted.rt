@@ -1,6 +1,6 @@
 ghost use Rattle.std.specs.Prelude.{◌≡◌};
 ghost use Rattle.b1_model.specs.MachineParts.{is_data as is_message, is_odd as has_bit_0};
-ghost use Rattle.b1_peer_queue.specs.Rows.{passes, is_marked as may_be_wanted};
+ghost use Rattle.b1_peer_queue.specs.Rows.{is_marked, name_of as entry_name, release_name as name_of_release, stage_name as name_of_stage};
 
 use b1_model::{Entry, Key};
 
@@ -29,27 +29,42 @@ fn is_data(entry: &Entry) -> bool
     matches!(entry, Entry::Message { .. })
 }
 
-/// Whether an entry is what is looked for.
-pub fn is_wanted(wanted: Wanted, key: &Key, entry: &Entry) -> bool
-    ensures { result ≡ passes wanted (key.now, entry.now) }
+/// Whether an entry is a staged notice.
+pub fn is_staged_notice(key: &Key, entry: &Entry) -> bool
+    ensures { result ≡ is_marked (key.now, entry.now) }
 {
-    match wanted {
-        Wanted::Stage { origin, index } => {
-            is_data(entry) && is_odd(key.stamp) && key.origin == origin && key.index == index
-        }
-        Wanted::Notice { origin } => {
-            !is_data(entry) && is_odd(key.stamp) && key.origin == origin
-        }
-        Wanted::Release { serial } => match entry {
-            Entry::ReleaseNotice { serial: mine } => *mine == serial,
-            _ => false,
-        },
+    is_odd(key.stamp) && !is_data(entry)
+}
+
+/// The name of the message that a driver has staged for a place.
+pub fn stage_name(origin: u32, index: u32) -> Key
+    ensures { result ≡ name_of_stage origin index }
+{
+    Key {
+        stamp: 1,
+        origin,
+        index,
     }
 }
 
-/// Whether an entry may be looked for: a staged one, or a release notice.
-pub fn is_marked(key: &Key, entry: &Entry) -> bool
-    ensures { result ≡ may_be_wanted (key.now, entry.now) }
+/// The name of a node's release notice.
+pub fn release_name(serial: u32) -> Key
+    ensures { result ≡ name_of_release serial }
 {
-    is_odd(key.stamp) || matches!(entry, Entry::ReleaseNotice { .. })
+    Key {
+        stamp: 0,
+        origin: 0,
+        index: serial,
+    }
+}
+
+/// The name of an entry: a staged message and a release notice have one.
+pub fn name_of(key: &Key, entry: &Entry) -> Option<Key>
+    ensures { result ≡ entry_name (key.now, entry.now) }
+{
+    match entry {
+        Entry::Message { .. } if is_odd(key.stamp) => Some(stage_name(key.origin, key.index)),
+        Entry::ReleaseNotice { serial } => Some(release_name(*serial)),
+        _ => None,
+    }
 }

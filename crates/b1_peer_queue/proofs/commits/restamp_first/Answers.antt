@@ -1,4 +1,9 @@
 use Rattle.std.proofs.Common.{sym}
+use Rattle.b1_model.specs.MachineTables.{is_staged_notice}
+use Rattle.b1_entry.specs.Table.{entry_at}
+use Rattle.b1_peer_queue.specs.Rows.{entry_or, row, shown}
+use Rattle.b1_peer_queue.proofs.ListLemmas.{find_passes}
+use Rattle.b1_peer_queue.proofs.NameLemmas.{notice_odd}
 use Rattle.b1_peer_queue.proofs.NoticeLemmas.{none_staged, next_is_new, next_distinct, next_fewer, next_kept, next_fresh}
 use Rattle.b1_peer_queue.proofs.commits.restamp_first.Goals as goal
 
@@ -28,3 +33,8 @@ pub returns-clause-fewer : goal.returns-clause-fewer
 returns-clause-fewer g c =
     rw (c.restamp_in.ensures.slots, c.restamp_in.ensures.listed)
     (next_fewer c.args.rows.now.entries.slots _ _ (g.met.Q.QueueKind.in_order c.args.rows.now.queue) c.args.origin c.args.stamp c.requires.even c.in-Some.key c.in-Some.place c.in-Some.ensures.first c.requires.distinct c.requires.new_keys)
+
+pub restamp_in-requires-clause-staged : goal.restamp_in-requires-clause-staged
+restamp_in-requires-clause-staged g c =
+    notice_odd c.args.origin c.in-Some.key (entry_or (entry_at c.args.rows.now.entries.slots c.in-Some.place))
+    (find_passes (is_staged_notice c.args.origin) (shown c.args.rows.now.entries.slots (g.Q.QueueKind.listed c.args.rows.now.queue)) (row c.args.rows.now.entries.slots (c.in-Some.key, c.in-Some.place)) (sym c.in-Some.ensures.found)).1
