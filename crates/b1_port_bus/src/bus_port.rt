@@ -1,9 +1,11 @@
-ghost use Rattle.std.specs.Prelude.{◌≡◌};
+ghost use Rattle.std.specs.Prelude.{◌≡◌, ◌<◌};
 ghost use Rattle.b1_locks.specs.Faces.{IsOf};
-ghost use Rattle.b1_port_bus.specs.Ported.{removed_of};
+ghost use Rattle.b1_port_bus.specs.Ported.{HasTaken, removed_of};
 
+use crate::receiving::take;
 use b1_bus::{Bus, Driver};
 use b1_edge::Gate;
+use b1_model::Call;
 use std::alloc::Global;
 use std::marker::Model;
 use std::sync::Wait;
@@ -47,6 +49,21 @@ impl<'a, R: Wait, G: Gate> BusPort<'a, R, G> {
             bus,
             gate,
         }
+    }
+
+    /// Does a RECV, whose answer is the last call's.
+    pub(crate) fn take(&mut self)
+        requires { 0 < self.old.own.spare }
+        ensures { HasTaken self.old self.new }
+    {
+        take(self.rt, self.bus, self.gate, self.driver);
+    }
+
+    /// The calls of its driver, in their order.
+    pub(crate) fn listed(&self) -> &[Call]
+        ensures { result.now ≡ self.now.own.part.calls }
+    {
+        self.driver.calls()
     }
 
     /// How many entries that were for nobody its last attempt that had to wait removed, and 0 where there was none.

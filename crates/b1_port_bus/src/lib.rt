@@ -2,6 +2,7 @@
 #![tactic(auto)]
 
 mod bus_port;
+mod receiving;
 mod serving;
 
 pub use bus_port::BusPort;

@@ -1,4 +1,5 @@
 use crate::bus_port::BusPort;
+use crate::receiving::last_received;
 use b1_edge::{Gate, Port};
 use b1_model::{Call, Nums, Reason, Receipt, Refused, SendCmd, Sent, Tried};
 use std::alloc::AllocError;
@@ -31,7 +32,8 @@ impl<'a, R: Wait, G: Gate> Port for BusPort<'a, R, G> {
     }
 
     fn recv(&mut self) -> Result<&Receipt, Reason> {
-        self.driver.recv(self.rt, self.bus, self.gate)
+        self.take();
+        last_received(self.listed())
     }
 
     fn attempt(&mut self) -> Tried {
