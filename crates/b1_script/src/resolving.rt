@@ -30,14 +30,17 @@ fn data_at<'a>(calls: &'a [Call], places: &[usize], index: u64) -> Option<(u32, 
     ensures { option_map data_seen result ≡ slice_get (data_receipts calls.now) index }
 {
     match places.get(index as usize) {
-        Some(place) => data(&calls[*place].answer),
+        Some(place) => match calls.get(*place) {
+            Some(call) => data(&call.answer),
+            None => None,
+        },
         None => None,
     }
 }
 
 /// A handle of a data receipt by its place, 2^64 - 1 where there is none.
 fn handle_in(found: Option<(u32, &[u64])>, place: usize) -> u64
-    ensures { result ≡ handle_in place (option_map data_seen found) }
+    ensures { result ≡ handle_in place (option_map data_seen found.entry) }
 {
     match found {
         Some((_, handles)) => match handles.get(place) {
@@ -50,7 +53,7 @@ fn handle_in(found: Option<(u32, &[u64])>, place: usize) -> u64
 
 /// The slice's offset of a data receipt, 2^64 - 1 where there is none.
 fn offset_in(found: Option<(u32, &[u64])>) -> u64
-    ensures { result ≡ offset_in (option_map data_seen found) }
+    ensures { result ≡ offset_in (option_map data_seen found.entry) }
 {
     match found {
         Some((offset, _)) => offset as u64,
@@ -67,10 +70,8 @@ fn handle_after(calls: &[Call], places: &[usize], number: u64) -> u64
     if number % 2 != 1 {
         return number;
     }
-    handle_in(
-        data_at(calls, places, number / 128),
-        (number % 128 / 2) as usize,
-    )
+    let found = data_at(calls, places, number / 128);
+    handle_in(found, (number % 128 / 2) as usize)
 }
 
 /// What an offset stands for after these calls: an odd one for the slice of a data receipt, and for 2^64 - 1 where there
