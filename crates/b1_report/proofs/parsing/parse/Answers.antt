@@ -1,4 +1,4 @@
-use Rattle.std.proofs.Common.{◌∙◌, ap, sym, arith, ◌^◌, ◌<◌}
+use Rattle.std.proofs.Common.{◌∙◌, ap, arith, ◌^◌, ◌<◌}
 use Rattle.std.proofs.lemmas.Result.{err_from_is_err_and}
 use Rattle.b1_report.proofs.Faults.{is_report, only_record, never_bad}
 use Rattle.b1_report.proofs.parsing.parse.Goals as goal

@@ -36,5 +36,5 @@ returns-in-Err-clause-bad c =
 
 pub returns-clause-read : goal.returns-clause-read
 returns-clause-read c =
-    let ended = c.is_done.ensures.0 (rw c.loop-left-test.false tt) in
+    let ended = c.is_done.ensures.0 c.loop-left-test.false in
     all_drafted c.args.peers c.args.bytes.now c.loop-left.draft c.loop-left.place c.loop-left.left.now c.loop-left.invariant ended.0 ended.1
