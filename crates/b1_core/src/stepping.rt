@@ -1,4 +1,4 @@
-ghost use Rattle.std.specs.Prelude.{◌≡◌, ◌≢◌, ◌+◌, ◌<◌, None, Some, false, not, length, is_none, option_copied, slice_get, IfOk, OnOk, OnErr};
+ghost use Rattle.std.specs.Prelude.{◌≡◌, ◌≢◌, ◌+◌, ◌<◌, ◌≤◌, None, Some, false, not, length, is_none, option_copied, slice_get, IfOk, OnOk, OnErr};
 ghost use Rattle.b1_model.specs.Opening.{IsOpening};
 ghost use Rattle.b1_model.specs.MachineStep.{Reached, begun};
 ghost use Rattle.b1_model.specs.MachineDriver.{peer_of};
@@ -37,7 +37,10 @@ pub fn wanted(
         return Ok(Some(None));
     }
     match command_at(commands, p, driver.calls().len()) {
-        Some(command) => Ok(Some(Some(resolve_after(alloc, command, driver.calls())?))),
+        Some(command) => {
+            let places = driver.data_places();
+            Ok(Some(Some(resolve_after(alloc, command, driver.calls(), places)?)))
+        }
         None => Ok(None),
     }
 }
@@ -132,8 +135,26 @@ fn begin(driver: &mut DriverState, command: Option<Command>) -> Result<(), Alloc
     if driver.calls().len() + 1 >= CALL_LIMIT {
         return Err(AllocError);
     }
-    driver.reserve(1)?;
+    make_room(driver)?;
     driver.begin(command);
+    Ok(())
+}
+
+// Makes room for one call more at least, for as many as there are where there is the memory. An error is want of memory,
+// and changes nothing.
+fn make_room(driver: &mut DriverState) -> Result<(), AllocError>
+    requires few { length driver.old.part.calls + 1 < call_limit }
+    requires fits { length driver.old.part.calls + driver.old.spare < call_limit }
+    ensures room { OnOk result (1 ≤ driver.new.spare) }
+    ensures same { driver.new ≡ record driver.old { spare = driver.new.spare } }
+    ensures err { OnErr result (driver.new ≡ driver.old) }
+    ensures few { length driver.new.part.calls + driver.new.spare < call_limit }
+{
+    let count = driver.calls().len();
+    let more = count.max(1).min(CALL_LIMIT - 1 - count);
+    if driver.spare() == 0 && driver.reserve(more).is_err() {
+        return driver.reserve(1);
+    }
     Ok(())
 }
 

@@ -6,6 +6,7 @@ ghost use Rattle.b1_model.specs.MachineDriver.{next_action};
 ghost use Rattle.b1_model.specs.MachineTook.{took, driver_calls};
 ghost use Rattle.b1_model.specs.MachineStep.{idle_driver};
 ghost use Rattle.b1_model.specs.MachineEvents.{begun_of, collected_of, doomed_of, no_begun, slots_at};
+ghost use Rattle.b1_receipts.specs.Places.{data_places};
 ghost use Rattle.b1_driver.specs.Parts.{by_phase, command_of, fits, hands_back, send_in, HasRoom, HasRoomAt};
 
 use crate::actions::stage_action;
@@ -32,6 +33,8 @@ use std::marker::Model;
 pub struct DriverState {
     me: u32,
     calls: Vec<Call>,
+    /// Where the data receipts stand among the calls.
+    places: Vec<usize>,
     facts: Facts,
     doing: Option<Open>,
     owing: Owing,
@@ -46,6 +49,7 @@ impl Model for DriverState {
     ghost use Rattle.std.specs.Prelude.{◌≡◌, ◌-◌, ◌≤◌, vec_len, vec_capacity};
     ghost use Rattle.b1_driver.specs.Stages.{doing_of, open_handles, IsOpen, OwesDrop};
     ghost use Rattle.b1_model.specs.MachineEvents.{no_begun};
+    ghost use Rattle.b1_driver.specs.Kept.{ArePlaces};
     ghost use Rattle.b1_driver.specs.Parts.{Driver, part_of};
 
     ghost Value = { Driver };
@@ -61,6 +65,7 @@ impl Model for DriverState {
 
     ghost invariant = { λ d. record {
       calls : vec_len d.calls ≤ vec_capacity d.calls;
+      places : ArePlaces d.calls d.places;
       doing : IsOpen (vec_len d.calls) (vec_capacity d.calls) d.doing;
       handles : open_handles d.doing ≤ d.owing.room;
       drops : d.room.handles ≤ d.owing.room;
@@ -80,6 +85,7 @@ impl DriverState {
         Ok(DriverState {
             me,
             calls: Vec::new(alloc),
+            places: Vec::new(alloc),
             facts: Facts::new(),
             doing: None,
             owing: Owing::make(alloc)?,
@@ -99,6 +105,7 @@ impl DriverState {
         ensures ok { OnOk result (self.new ≡ record self.old { spare = max self.old.spare n }) }
         ensures err { OnErr result (self.new ≡ self.old) }
     {
+        self.places.reserve(n)?;
         self.calls.reserve_exact(n)
     }
 
@@ -121,6 +128,13 @@ impl DriverState {
         ensures { result.now ≡ self.now.part.calls }
     {
         self.calls.as_slice()
+    }
+
+    /// Where the data receipts stand among the calls that ended, in their order.
+    pub fn data_places(&self) -> &[usize]
+        ensures { result.now ≡ data_places self.now.part.calls }
+    {
+        self.places.as_slice()
     }
 
     /// The calls that ended, and the open command behind them where its answer is fixed. Takes no memory.
@@ -288,7 +302,13 @@ impl DriverState {
             &mut self.doomed,
         );
         let after = settle_after(after, &self.owing, self.facts.told);
-        go_on(&mut self.doing, &mut self.calls, command, after);
+        go_on(
+            &mut self.doing,
+            &mut self.calls,
+            &mut self.places,
+            command,
+            after,
+        );
     }
 
     /// What `took` does for a destruction's begin, where the list of doomed nodes comes back with its room.
@@ -305,6 +325,12 @@ impl DriverState {
         };
         let after = begin_destroy_answered(stage, got, doomed, &mut self.doomed);
         let after = settle_after(after, &self.owing, self.facts.told);
-        go_on(&mut self.doing, &mut self.calls, command, after);
+        go_on(
+            &mut self.doing,
+            &mut self.calls,
+            &mut self.places,
+            command,
+            after,
+        );
     }
 }

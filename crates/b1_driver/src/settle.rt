@@ -4,12 +4,14 @@ ghost use Rattle.b1_model.specs.declared.events.OwedDrop.{OwedDrop as OwedDrops}
 ghost use Rattle.b1_model.specs.MachineTook.{answer_of, as_call, call_of, is_waiting, open_by, stamped_answer};
 ghost use Rattle.b1_driver.specs.Parts.{settled, settled_turn};
 ghost use Rattle.b1_driver.specs.Stages.{calls_after, doing_of, open_after, open_handles, phase_of, send_phase, turn_of, handles_in, handles_after, is_dropping_after, IsStage, IsAfter, IsOpen, OwesDrop};
+ghost use Rattle.b1_driver.specs.Kept.{ArePlaces};
 
 use crate::facts::is_await;
 use crate::owing::Owing;
 use crate::places::is_place;
 use crate::stage::{After, DestroyStage, Open, SendStage, Stage};
 use b1_model::{Answer, Call, Command, Reason, Refused, Sent};
+use b1_receipts::note;
 
 /// A command stays in its stage, or ends there where nothing is left of it.
 pub fn settle(stage: Stage, owing: &Owing, told: bool) -> After
@@ -93,7 +95,20 @@ pub fn add_call(calls: &mut Vec<Call>, command: Command, answer: Answer)
     }
 }
 
-/// The same, after an event.
+/// The same, and its place behind the places where it is a data receipt.
+fn list_call(calls: &mut Vec<Call>, places: &mut Vec<usize>, command: Command, answer: Answer)
+    requires room { vec_len calls.old < vec_capacity calls.old }
+    requires places { ArePlaces calls.old places.old }
+    ensures items { calls.new.items ≡ calls.old.items ++ call_of command answer }
+    ensures capacity { vec_capacity calls.new ≡ vec_capacity calls.old }
+    ensures len { vec_len calls.new ≤ vec_len calls.old + 1 }
+    ensures places { ArePlaces calls.new places.new }
+{
+    note(places, calls.len(), &answer);
+    add_call(calls, command, answer);
+}
+
+/// A command stays in its stage after an event, or ends there where nothing is left of it.
 pub fn settle_after(after: After, owing: &Owing, told: bool) -> After
     requires { IsAfter after }
     ensures turn { (command : Commands) (doomed : List ℕ)
@@ -181,10 +196,17 @@ pub fn all_calls(calls: Vec<Call>, doing: Option<Open>) -> Vec<Call>
     calls
 }
 
-/// A command goes on, or stands behind the calls.
-pub fn go_on(doing: &mut Option<Open>, calls: &mut Vec<Call>, command: Command, after: After)
+/// A command goes on, or stands behind the calls, and its place behind the others where it is a data receipt.
+pub fn go_on(
+    doing: &mut Option<Open>,
+    calls: &mut Vec<Call>,
+    places: &mut Vec<usize>,
+    command: Command,
+    after: After,
+)
     requires room { vec_len calls.old < vec_capacity calls.old }
     requires holds { IsAfter after }
+    requires places { ArePlaces calls.old places.old }
     ensures doing { doing.new ≡ open_after command after }
     ensures calls { calls.new.items ≡ calls.old.items ++ calls_after command after }
     ensures capacity { vec_capacity calls.new ≡ vec_capacity calls.old }
@@ -193,11 +215,12 @@ pub fn go_on(doing: &mut Option<Open>, calls: &mut Vec<Call>, command: Command, 
     ensures handles { open_handles doing.new ≡ handles_after after }
     ensures owes { (owed : List OwedDrops) → (is_dropping_after after ≡ true → owed ≢ [])
         → OwesDrop owed doing.new }
+    ensures places { ArePlaces calls.new places.new }
 {
     match after {
         After::Goes(stage) => *doing = Some(Open { command, stage }),
         After::Ends(answer) => {
-            add_call(calls, command, answer);
+            list_call(calls, places, command, answer);
             *doing = None;
         }
     }

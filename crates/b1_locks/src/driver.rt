@@ -1,5 +1,6 @@
 ghost use Rattle.std.specs.Prelude.{◌≡◌, ◌+◌, ◌<◌, length, max, OnOk, OnErr};
 ghost use Rattle.b1_event.specs.Borne.{call_limit};
+ghost use Rattle.b1_receipts.specs.Places.{data_places};
 ghost use Rattle.b1_rule.specs.Rule.{holding};
 ghost use Rattle.b1_rule.specs.Plays.{resting};
 ghost use Rattle.b1_locks.specs.Faces.{IsIdle, StandsIn};
@@ -115,6 +116,13 @@ impl<Q: QueueKind, P: PoolKind> Driver<Q, P> {
         ensures { result.now ≡ self.now.own.part.calls }
     {
         self.hand.state.calls()
+    }
+
+    /// Where the data receipts stand among the calls that this driver has done, in their order.
+    pub fn data_places(&self) -> &[usize]
+        ensures { result.now ≡ data_places self.now.own.part.calls }
+    {
+        self.hand.state.data_places()
     }
 
     /// Whether the peer has disconnected.

@@ -16,8 +16,9 @@ use Rattle.b1_report_lines.specs.Lines.{line_text, next_place, MayStand, IsLineT
 use Rattle.b1_report_lines.specs.Reading.{split_once}
 use Rattle.b1_report_lines.proofs.FreeLines.{line_in_line}
 use Rattle.b1_report_lines.proofs.Splitting.{IsFree, free_tail, split_found}
+use Rattle.b1_report.specs.declared.drafts.Draft.{Draft}
 use Rattle.b1_report.specs.Parsing.{IsReport, CanGoOn, AreLines, first_line, LineBreaks, IsFault, TellsFault, WasRead}
-use Rattle.b1_report.specs.Runs.{IsRun, run_text, AreAllLines, CanFollow, TellsUnfinished, cut_short, line_fault, gathered}
+use Rattle.b1_report.specs.Runs.{IsRun, run_text, AreAllLines, CanFollow, TellsUnfinished, IsDrafted, cut_short, drafted, line_fault, gathered}
 use Rattle.b1_report.proofs.LineRuns.{IsTail, next_is_place, run_place, run_more, text_more, tail_behind, text_behind, complete, halves, not_nil, cancel}
 use Rattle.b1_report.proofs.Gathering.{all_lines, lines_of_report, all_gathered, report_of_lines, none_behind}
 
@@ -303,3 +304,31 @@ never_bad peers bytes (not_read.Bad at cause.Wiring) rec h r = absurd h
 never_bad peers bytes (not_read.Bad at cause.Length) rec h r = absurd h
 never_bad peers bytes (not_read.Bad at cause.Trailing) rec h r = absurd h
 never_bad peers bytes (not_read.Bad at cause.Long) rec h r = absurd h
+
+-- ---- the draft
+
+-- a loop's draft is what its lines came to, with any that follow
+pub record DraftSoFar (peers : ℕ) (bytes : List ℕ) (draft : Draft) (spot : Place) (left : List ℕ) : Type 0 where
+  pub all : List Line
+  pub so_far : SoFar peers bytes all spot left
+  pub same : (rest : List Line) → drafted draft rest ≡ gathered (all ++ rest)
+
+pub none_drafted : (peers : ℕ) (bytes : List ℕ) (draft : Draft) → ((rest : List Line) → drafted draft rest ≡ gathered rest) → DraftSoFar peers bytes draft place.Header bytes
+none_drafted peers bytes draft none = record { all = []; so_far = record { run = refl; same = refl }; same = none }
+
+pub one_drafted : (peers : ℕ) → peers < 2 ^ 32 → (bytes : List ℕ) (old new : Draft) (spot : Place) (left text rest : List ℕ) (l : Line) → DraftSoFar peers bytes old spot left → ((ls : List Line) → drafted new ls ≡ drafted old (l ∷ ls)) → left ≡ text ++ 10 ∷ rest → IsOnlyLine peers spot text l → DraftSoFar peers bytes new (next_place spot l) rest
+one_drafted peers lt bytes old new spot left text rest l before takes cut only = record {
+  all = before.all ++ l ∷ [];
+  so_far = one_more peers lt bytes before.all spot left before.so_far text rest l cut only;
+  same = λ ls. takes ls ∙ before.same (l ∷ ls) ∙ ap gathered (sym (append_assoc before.all (l ∷ []) ls));
+}
+
+pub all_drafted : (peers : ℕ) (bytes : List ℕ) (draft : Draft) (spot : Place) (left : List ℕ) → DraftSoFar peers bytes draft spot left → spot ≡ place.Done → left ≡ [] → IsDrafted peers bytes draft
+all_drafted peers bytes draft spot left before done none = record {
+  all = before.all;
+  are = record {
+    run = subst (λ (x : Place). IsRun peers place.Header before.all x) done before.so_far.run;
+    same = before.so_far.same ∙ ap (λ (x : List ℕ). run_text peers place.Header before.all ++ x) none ∙ append-nil (run_text peers place.Header before.all);
+  };
+  same = before.same [] ∙ ap gathered (append-nil before.all);
+}

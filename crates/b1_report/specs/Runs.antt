@@ -71,3 +71,9 @@ opened (Some peer) calls = record { epoch = peer.0; clock = peer.1; calls = call
 -- what a draft comes to, with lines that follow
 abbrev pub drafted : Draft → List lines.Line → List PeerCalls
 drafted d ls = d.peers.items ++ (opened d.begun (d.calls.items ++ front_calls ls) ++ gathered ls)
+
+-- what all lines of the bytes come to
+pub record IsDrafted (peers : ℕ) (bytes : List ℕ) (draft : Draft) : Type 0 where
+  pub all : List lines.Line
+  pub are : AreAllLines peers bytes all
+  pub same : drafted draft [] ≡ gathered all

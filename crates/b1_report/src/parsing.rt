@@ -2,14 +2,14 @@ ghost use Rattle.std.specs.Prelude.{◌≡◌, ◌+◌, ◌^◌, ◌<◌, ◌↔
 ghost use Rattle.b1_model.specs.declared.records.Record.{Record};
 ghost use Rattle.b1_report_lines.specs.Lines.{IsPlace, next_place};
 ghost use Rattle.b1_report.specs.Parsing.{IsReport, TellsReport, WasRead, TellsFault};
-ghost use Rattle.b1_report.specs.Runs.{AreAllLines, TellsUnfinished, CanFollow, cut_short, line_fault, gathered};
+ghost use Rattle.b1_report.specs.Runs.{IsDrafted, TellsUnfinished, CanFollow, cut_short, line_fault};
 
 use crate::drafts::Draft;
 use b1_errs::{Cause, NotRead};
-use b1_model::{PeerLists, Record};
+use b1_model::Record;
 use b1_report_lines::{Line, Place, Stop, Unread, read_line};
 use b1_text_words::split;
-use std::alloc::{AllocError, Global};
+use std::alloc::Global;
 
 /// Where a report stands behind a line.
 fn behind(place: Place, line: &Line) -> Place
@@ -80,12 +80,12 @@ fn is_done(place: Place, left: &[u8]) -> bool
     }
 }
 
-/// The lines of a report.
-fn read_lines(alloc: Global, bytes: &[u8], peers: u32) -> Result<Vec<Line>, NotRead>
-    ensures read { IfOk result (λ lines. AreAllLines peers bytes.now lines.items) }
+/// The draft of a report's record, into which each line goes as it is read.
+fn read_draft(alloc: Global, bytes: &[u8], peers: u32) -> Result<Draft, NotRead>
+    ensures read { IfOk result (λ draft. IsDrafted peers bytes.now draft) }
     ensures bad { IfErr result (λ why. TellsFault peers bytes.now why) }
 {
-    let mut lines = Vec::new(alloc);
+    let mut draft = Draft::new(alloc);
     let mut place = Place::Header;
     let mut left = bytes;
     while !is_done(place, left) {
@@ -96,34 +96,25 @@ fn read_lines(alloc: Global, bytes: &[u8], peers: u32) -> Result<Vec<Line>, NotR
         match read_line(alloc, peers, place, text) {
             Ok(line) => {
                 place = behind(place, &line);
-                lines.push(line)?;
+                draft.take(alloc, line)?;
                 left = rest;
             }
             Err(why) => return Err(fault(why, at)),
         }
     }
-    Ok(lines)
-}
-
-fn gather(alloc: Global, lines: Vec<Line>) -> Result<PeerLists, AllocError>
-    ensures { IfOk result (λ peers. peers ≡ gathered lines.items) }
-{
-    let mut draft = Draft::new(alloc);
-    for line in lines {
-        draft.take(alloc, line)?;
-    }
-    draft.finish(alloc)
+    Ok(draft)
 }
 
 /// The record whose report the bytes are, with this number of peers. A fault is `Cause::Line` at the first line behind
-/// which no report of so many peers can go on, or at the end, where the bytes end too early.
+/// which no report of so many peers can go on, or at the end, where the bytes end too early. Takes a time that grows
+/// with the bytes alone.
 pub fn parse(alloc: Global, bytes: &[u8], peers: u32) -> Result<Record, NotRead>
     // The bytes are the report of what is read; a fault is where they stop being one.
     ensures tells { TellsReport peers bytes.now result }
     // The record whose report they are is read, unless memory runs out.
     ensures only { (rec : Record) → IsReport peers bytes.now rec → WasRead rec result }
 {
-    let lines = read_lines(alloc, bytes, peers)?;
-    let peers = gather(alloc, lines)?;
+    let draft = read_draft(alloc, bytes, peers)?;
+    let peers = draft.finish(alloc)?;
     Ok(Record { peers })
 }

@@ -35,7 +35,8 @@ pub fn removed_some(driver: &Driver) -> bool
     }
 }
 
-/// Makes room for one call more at least, and answers whether there is.
+/// Makes room for one call more at least, for as many as there are where there is the memory, and answers whether there
+/// is room for one.
 pub fn make_room(driver: &mut Driver) -> bool
     ensures { MayHaveRoom driver.old result driver.new }
 {
@@ -47,7 +48,7 @@ pub fn make_room(driver: &mut Driver) -> bool
         return false;
     }
     let more = count.max(LEAST_ROOM).min(CALL_LIMIT - 1 - count);
-    driver.reserve(more).is_ok()
+    driver.reserve(more).is_ok() || driver.reserve(1).is_ok()
 }
 
 /// Does the next command of a list, its references resolved, and answers whether it ended with a call.
@@ -70,7 +71,9 @@ fn do_next<R: Wait, G: Gate>(
         return false;
     }
     let done = worker.driver.calls().len();
-    let Ok(command) = resolve_after(alloc, &commands[done], worker.driver.calls()) else {
+    let driver = &worker.driver;
+    let resolved = resolve_after(alloc, &commands[done], driver.calls(), driver.data_places());
+    let Ok(command) = resolved else {
         worker.short = true;
         return false;
     };

@@ -1,3 +1,4 @@
 pub mod WiresLoop
 pub mod Scripts
 pub mod Laws
+mod Found
