@@ -10,9 +10,9 @@ use Rattle.std.proofs.lemmas.Bool.{eqb-true}
 use Rattle.std.proofs.Common.{arith, sym, ap, ◌∙◌}
 use Rattle.b1_model.specs.Names.{Node}
 use Rattle.b1_model.specs.Ledger.{is_the_node, has_node}
-use Rattle.b1_judge_facts.specs.Kept.{pair_cmp, kept_at, Keeps, Marks, is_gone, Adds}
+use Rattle.b1_judge_facts.specs.Kept.{pair_cmp, kept_at, Keeps, Marks, is_gone, is_gone_at, Adds}
 
-eq_cmp : (a b : ℕ) → is_eq (nat_cmp a b) ≡ (a == b)
+pub eq_cmp : (a b : ℕ) → is_eq (nat_cmp a b) ≡ (a == b)
 eq_cmp a b = go (nat_lt a b) (a == b) refl refl
   where
     go : (x y : Bool) → nat_lt a b ≡ x → (a == b) ≡ y → is_eq (if x then Less else (if y then Equal else Greater)) ≡ y
@@ -21,7 +21,7 @@ eq_cmp a b = go (nat_lt a b) (a == b) refl refl
     go false true e f = refl
     go false false e f = refl
 
-eq_then : (x y : Ordering) → is_eq (ordering_then x y) ≡ (is_eq x && is_eq y)
+pub eq_then : (x y : Ordering) → is_eq (ordering_then x y) ≡ (is_eq x && is_eq y)
 eq_then Less y = refl
 eq_then Equal y = refl
 eq_then Greater y = refl
@@ -50,7 +50,7 @@ or_end true = refl
 or_end false = refl
 
 -- the node at a pair
-at_node : (x y : Node) → is_eq (pair_cmp (y.owner, y.serial) (x.owner, x.serial)) ≡ is_the_node x (Some y)
+pub at_node : (x y : Node) → is_eq (pair_cmp (y.owner, y.serial) (x.owner, x.serial)) ≡ is_the_node x (Some y)
 at_node x y = pair_eq y.owner y.serial x.owner x.serial ∙ rw (eq_sym y.owner x.owner, eq_sym y.serial x.serial) refl
 
 has_one : (x y : Node) → has_node x (Some y ∷ []) ≡ is_the_node x (Some y)
@@ -84,3 +84,11 @@ adds_insert y m n h x = h (x.owner, x.serial) ∙ ap (λ b. if b then true else 
     go true false = refl
     go false true = refl
     go false false = refl
+
+-- what is in the set stays when a pair is put in
+pub gone_stays : (k : ℕ × ℕ) (m n : BTreeSet (ℕ × ℕ)) → ((q : ℕ × ℕ) → contains pair_cmp n q ≡ (if is_at (pair_cmp k) q then true else contains pair_cmp m q)) → (owner serial : ℕ) → is_gone_at m owner serial ≡ true → is_gone_at n owner serial ≡ true
+gone_stays k m n h owner serial e = h (owner, serial) ∙ go (is_at (pair_cmp k) (owner, serial))
+  where
+    go : (b : Bool) → (if b then true else contains pair_cmp m (owner, serial)) ≡ true
+    go true = refl
+    go false = e

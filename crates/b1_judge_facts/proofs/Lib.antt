@@ -1,6 +1,9 @@
 mod Orders
 mod Walking
-mod Lines
+mod LinesLeft
+mod Indexing
+mod Naming
+mod Beside
 mod Keeping
 mod Starts
 mod Dooms

@@ -13,7 +13,9 @@ use Rattle.b1_model.specs.Names.{Node}
 use Rattle.b1_model.specs.Ledger.{is_before, Message, order, message, has_node, is_late}
 use Rattle.b1_model.specs.declared.naming.Opening.{Opening}
 use Rattle.b1_model.specs.Opening.{IsOpening}
+use Rattle.b1_judge_facts.specs.declared.standing.Standing.{Standing}
 use Rattle.b1_judge_facts.specs.Facts.{doomed}
+use Rattle.b1_judge_facts.specs.Start.{AreBegun}
 
 -- pairs of numbers, by the first and then by the second
 abbrev pub pair_cmp : ℕ × ℕ → ℕ × ℕ → Ordering
@@ -40,9 +42,13 @@ Keeps stamp origin w m n = (t q : ℕ) → kept_at n t q ≡ (if (stamp == t) &&
 abbrev pub Marks : ℕ → ℕ → List (Option Node) → BTreeMap (ℕ × ℕ) (ℕ × ℕ) → BTreeMap (ℕ × ℕ) (ℕ × ℕ) → Type 0
 Marks stamp origin nodes m n = (x : Node) → kept_at n x.owner x.serial ≡ option_or (kept_at m x.owner x.serial) (if has_node x nodes then Some (stamp, origin) else None)
 
+-- the node at a place of an owner is in the set
+abbrev pub is_gone_at : BTreeSet (ℕ × ℕ) → ℕ → ℕ → Bool
+is_gone_at gone owner serial = contains pair_cmp gone (owner, serial)
+
 -- the node is in the set
 abbrev pub is_gone : BTreeSet (ℕ × ℕ) → Node → Bool
-is_gone gone x = contains pair_cmp gone (x.owner, x.serial)
+is_gone gone x = is_gone_at gone x.owner x.serial
 
 -- the set with these nodes
 abbrev pub Adds : List (Option Node) → BTreeSet (ℕ × ℕ) → BTreeSet (ℕ × ℕ) → Type 0
@@ -56,7 +62,8 @@ pub record IsKept (ws : List Wire) (r : Record) (stamps : List Stamp) (messages 
   pub late_is : (x : Node) (key : Key) → comes_before (kept_at first x.owner x.serial) key ≡ is_late ws r x key
 
 -- all of a record with as many peers as its opening
-pub record IsFacts (o : Opening) (r : Record) (stamps : List Stamp) (messages : BTreeMap (ℕ × ℕ) Message) (destroyed : BTreeMap (ℕ × ℕ) (List (Option Node))) (first : BTreeMap (ℕ × ℕ) (ℕ × ℕ)) : Type 0 where
+pub record IsFacts (o : Opening) (r : Record) (starts : List Standing) (stamps : List Stamp) (messages : BTreeMap (ℕ × ℕ) Message) (destroyed : BTreeMap (ℕ × ℕ) (List (Option Node))) (first : BTreeMap (ℕ × ℕ) (ℕ × ℕ)) : Type 0 where
   pub opens : IsOpening o
   pub peers : length r.peers ≡ length o.peers
+  pub starts_are : AreBegun o.wires o.wires (length r.peers) starts
   pub kept : IsKept o.wires r stamps messages destroyed first

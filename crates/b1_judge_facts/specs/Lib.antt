@@ -2,6 +2,7 @@ pub mod Facts
 pub mod Steps
 pub mod Standing
 pub mod Kept
+pub mod Indexes
 pub mod Start
 pub mod Gathering
 pub mod Walks

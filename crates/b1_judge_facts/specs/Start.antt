@@ -4,6 +4,7 @@ use Rattle.b1_model.specs.declared.naming.Wire.{Wire}
 use Rattle.b1_model.specs.Names.{wired}
 use Rattle.b1_model.specs.Ledger.{named, handed, wire_tables}
 use Rattle.b1_judge_facts.specs.declared.standing.Standing.{Standing}
+use Rattle.b1_judge_facts.specs.Steps.{with_name}
 
 -- a wire from and to one of n peers
 abbrev pub IsWithin : ℕ → Wire → Type 0
@@ -32,3 +33,9 @@ pub record Gives (w : Wire) (xs ys : List Standing) : Type 0 where
   pub gives : slice_get xs w.from ≡ Some giver
   pub takes : slice_get xs w.to ≡ Some taker
   pub given : ys ≡ slice_set xs w.to (record taker { table = handed (named w.from giver.names giver.table w.number) taker.table })
+
+-- a wire gave its name
+pub record GivesName (w : Wire) (xs ys : List Standing) : Type 0 where
+  pub giver : Standing
+  pub gives : slice_get xs w.from ≡ Some giver
+  pub named : ys ≡ slice_set xs w.from (record giver { names = with_name 0 w.number giver.names })

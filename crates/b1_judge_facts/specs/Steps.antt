@@ -1,21 +1,16 @@
 -- One step of what a walk along a peer's calls keeps: a name more, and where a number's line stands.
-use Rattle.std.specs.Prelude.{ℕ, suc, pred, Bool, not, ◌&&◌, if◌then◌else◌, ◌==◌, List, [], ◌∷◌, ◌++◌, map, filter, Option, None, Some}
+use Rattle.std.specs.Prelude.{ℕ, pred, ◌+◌, Bool, not, ◌&&◌, if◌then◌else◌, ◌==◌, List, [], ◌∷◌, ◌++◌, map, filter, Option, None, Some}
 use Rattle.b1_model.specs.declared.naming.Key.{Key}
 use Rattle.b1_model.specs.declared.commands.Command.{Command}
 use Rattle.b1_model.specs.declared.answers.Receipt.TheVariants as rec
 use Rattle.b1_model.specs.declared.answers.Answer.{Answer}
 use Rattle.b1_model.specs.declared.answers.Answer.TheVariants as ans
 use Rattle.b1_model.specs.Names.{Node, Name, is_own, is_known, nodes_from}
-use Rattle.b1_model.specs.Ledger.{Line, Table, named, destroy_numbers}
+use Rattle.b1_model.specs.Ledger.{Line, Table, has_line, received, named, destroy_numbers}
 
 -- the names with one number more, if it is an own one that isn't known yet
 abbrev pub with_name : ℕ → ℕ → List Name → List Name
 with_name e n known = if is_own n && not (is_known n known) then known ++ record { number = n; epoch = e } ∷ [] else known
-
--- where the line of a number stands, where the first has the place i
-abbrev pub line_from : ℕ → ℕ → List Line → Option ℕ
-line_from i n [] = None
-line_from i n (l ∷ ls) = if n == l.number then Some i else line_from (suc i) n ls
 
 -- a line with one less that is held; none where it was the last
 abbrev pub less_held : Line → Option Line
@@ -35,3 +30,11 @@ doomed_by p known t gone c a = None
 abbrev pub slots_for : (Key → List (Option Node)) → Answer → List (Option Node)
 slots_for look (ans.Got (rec.Message key number offset handles payload)) = look key
 slots_for look a = []
+
+-- a table with the lines that were made beside it
+abbrev pub beside : Table → Table → Table
+beside t made = record { lines = t.lines ++ made.lines; given = t.given + made.given }
+
+-- the lines beside a table after a number with the node x was received
+abbrev pub received_beside : ℕ → Option Node → Table → Table → Table
+received_beside n x t made = if has_line n t.lines then made else received n x made

@@ -9,7 +9,8 @@ use crate::gather::{Gathering, slots};
 use crate::keep::comes_before;
 use crate::message::Message;
 use crate::node::NodeId;
-use crate::start::begin;
+use crate::standing::Standing;
+use crate::start::starts;
 use crate::table::slot;
 use b1_model::{Answer, Items, Key, Opening, Record, Stamp, Stamps, order_of};
 use std::alloc::{AllocError, Global};
@@ -23,6 +24,8 @@ use std::marker::Model;
 pub struct Facts<'a> {
     pub(crate) opening: &'a Opening,
     pub(crate) rec: &'a Record,
+    /// Where each peer stands before its first call.
+    pub(crate) starts: Vec<Standing>,
     order: Stamps,
     /// The messages, by stamp and origin.
     messages: BTreeMap<(u64, u32), Message<'a>>,
@@ -41,8 +44,8 @@ impl<'a> Model for Facts<'a> {
 
     ghost view = { λ f. record { wires = f.opening.now.wires; rec = f.rec.now } };
 
-    ghost invariant = { λ f. IsFacts f.opening.now f.rec.now f.order f.messages f.destroyed
-        f.first };
+    ghost invariant = { λ f. IsFacts f.opening.now f.rec.now f.starts.items f.order
+        f.messages f.destroyed f.first };
 }
 
 impl<'a> Facts<'a> {
@@ -58,8 +61,7 @@ impl<'a> Facts<'a> {
         ensures { IfOk result (λ facts. (facts.wires ≡ opening.now.wires) × (facts.rec ≡ rec.now)) }
     {
         let order = order_of(alloc, rec)?;
-        let standings = begin(alloc, opening.wires.as_slice(), rec.peers.len())?;
-        let mut gathering = Gathering::start(alloc, rec, standings)?;
+        let mut gathering = Gathering::start(alloc, rec, starts(alloc, opening, rec)?)?;
         for stamp in order.as_slice() {
             gathering.take(stamp)?;
         }
@@ -72,6 +74,7 @@ impl<'a> Facts<'a> {
         Ok(Facts {
             opening,
             rec,
+            starts: starts(alloc, opening, rec)?,
             order,
             messages,
             destroyed,

@@ -8,13 +8,14 @@ ghost use Rattle.b1_judge_facts.specs.Steps.{doomed_by, slots_for};
 ghost use Rattle.b1_judge_facts.specs.Gathering.{Reaches, Takes, ArePaces, IsStart};
 ghost use Rattle.b1_judge_facts.specs.declared.gather.Pace.{Pace as Paces};
 
+use crate::gone::Gone;
 use crate::keep::{keep_message, keep_nodes, mark_first, mark_gone, nodes_of};
 use crate::message::Message;
 use crate::node::NodeId;
 use crate::standing::Standing;
 use b1_model::{Answer, Call, Command, Items, Key, Receipt, Record, Stamp};
 use std::alloc::{AllocError, Global};
-use std::collections::{BTreeMap, BTreeSet};
+use std::collections::BTreeMap;
 
 /// How far the calls of one peer are gathered.
 #[derive(Drop)]
@@ -23,8 +24,8 @@ pub(crate) struct Pace {
     pub standing: Standing,
     /// How many of its calls lie behind.
     pub call: usize,
-    /// The nodes that it has destroyed, by owner and serial.
-    pub gone: BTreeSet<(u32, u64)>,
+    /// The nodes that it has destroyed.
+    pub gone: Gone,
 }
 
 impl Pace {
@@ -101,7 +102,7 @@ impl<'a> Gathering<'a> {
         pace.reach(calls, stamp.call as usize, &self.messages, origin)?;
         let call = &calls[stamp.call as usize];
         let message = message_by(self.alloc, &pace.standing, origin, call)?;
-        let nodes = doomed_by(self.alloc, pace, origin, call)?;
+        let nodes = doomed_by(self.alloc, &pace.standing, &mut pace.gone, origin, call)?;
         mark_gone(&mut pace.gone, nodes_of(&nodes))?;
         mark_first(&mut self.first, stamp.stamp, origin, nodes_of(&nodes))?;
         keep_message(&mut self.messages, stamp.stamp, origin, message)?;
@@ -119,7 +120,7 @@ fn first_paces(alloc: Global, standings: Vec<Standing>) -> Result<Vec<Pace>, All
         paces.push(Pace {
             standing,
             call: 0,
-            gone: BTreeSet::new(alloc),
+            gone: Gone::new(alloc),
         })?;
     }
     Ok(paces)
@@ -184,22 +185,22 @@ fn message_by<'a>(
 /// The nodes that a call destroys, if it is a destruction, where the peer stands behind it. An error is want of memory.
 fn doomed_by(
     alloc: Global,
-    pace: &Pace,
+    standing: &Standing,
+    gone: &mut Gone,
     peer: u32,
     call: &Call,
 ) -> Result<Option<Items<Option<NodeId>>>, AllocError>
-    ensures { IfOk result (λ nodes. nodes
-        ≡ doomed_by peer pace.now.standing.names pace.now.standing.table
-        (is_gone pace.now.gone) call.now.command call.now.answer) }
+    ensures nodes { IfOk result (λ nodes. nodes
+        ≡ doomed_by peer standing.now.names standing.now.table
+        (is_gone gone.old) call.now.command call.now.answer) }
+    ensures gone { gone.new ≡ gone.old }
 {
     match &call.answer {
         Answer::Destroyed { .. } => {
             let numbers = destroy_numbers(&call.command);
-            Ok(Some(pace.standing.named_all(alloc, peer, numbers)?))
+            Ok(Some(standing.named_all(alloc, peer, numbers)?))
         }
-        Answer::Reset { stamp: Some(_) } => {
-            Ok(Some(pace.standing.names.live(alloc, peer, &pace.gone)?))
-        }
+        Answer::Reset { stamp: Some(_) } => { Ok(Some(standing.names.live(alloc, peer, gone)?)) }
         _ => Ok(None),
     }
 }

@@ -4,11 +4,12 @@ ghost use Rattle.std.specs.Prelude.{◌≡◌, [], ◌∷◌, OnOk};
 ghost use Rattle.std.specs.Option.{option_copied};
 ghost use Rattle.b1_judge_facts.specs.Kept.{Keeps, Marks, Adds, kept_nodes, comes_before};
 
+use crate::gone::Gone;
 use crate::message::Message;
 use crate::node::NodeId;
 use b1_model::{Items, Key};
 use std::alloc::AllocError;
-use std::collections::{BTreeMap, BTreeSet};
+use std::collections::BTreeMap;
 
 /// Keeps a message, if there is one. An error is want of memory.
 pub(crate) fn keep_message<'a>(
@@ -86,10 +87,7 @@ fn mark_one(
 }
 
 /// Adds nodes to those that are gone. An error is want of memory.
-pub(crate) fn mark_gone(
-    gone: &mut BTreeSet<(u32, u64)>,
-    nodes: &[Option<NodeId>],
-) -> Result<(), AllocError>
+pub(crate) fn mark_gone(gone: &mut Gone, nodes: &[Option<NodeId>]) -> Result<(), AllocError>
     ensures { OnOk result (Adds nodes.now gone.old gone.new) }
 {
     for node in nodes {
@@ -99,13 +97,13 @@ pub(crate) fn mark_gone(
 }
 
 /// Adds a node to those that are gone.
-fn add_one(gone: &mut BTreeSet<(u32, u64)>, node: Option<NodeId>) -> Result<(), AllocError>
+fn add_one(gone: &mut Gone, node: Option<NodeId>) -> Result<(), AllocError>
     ensures { OnOk result (Adds (node ∷ []) gone.old gone.new) }
 {
-    if let Some(node) = node {
-        gone.insert((node.owner, node.serial))?;
+    match node {
+        Some(node) => gone.add(node),
+        None => Ok(()),
     }
-    Ok(())
 }
 
 /// Whether a destruction, if there is one, is before the call of a key.

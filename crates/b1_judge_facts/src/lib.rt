@@ -7,8 +7,10 @@
 
 mod facts;
 mod gather;
+mod gone;
 mod keep;
 mod laws;
+mod lines;
 mod message;
 mod names;
 mod node;

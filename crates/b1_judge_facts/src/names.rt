@@ -1,12 +1,14 @@
-ghost use Rattle.std.specs.Prelude.{◌≡◌, if◌then◌else◌, [], ◌∷◌, ◌++◌, map, Option, Some, IfOk, OnOk};
-ghost use Rattle.b1_model.specs.Names.{is_known, add_new, node_from, own_node, number_at};
+ghost use Rattle.std.specs.Prelude.{◌≡◌, false, if◌then◌else◌, [], ◌∷◌, ◌++◌, map, Option, Some, IfOk, OnOk};
+ghost use Rattle.b1_model.specs.Names.{is_known, add_new, own_node, number_at};
+ghost use Rattle.b1_judge_facts.specs.Indexes.{HasPlaces, named_at};
 ghost use Rattle.b1_judge_facts.specs.Kept.{is_gone};
 ghost use Rattle.b1_judge_facts.specs.Steps.{with_name, live};
 
+use crate::gone::Gone;
 use crate::node::NodeId;
 use b1_model::Items;
 use std::alloc::{AllocError, Global};
-use std::collections::BTreeSet;
+use std::collections::BTreeMap;
 use std::marker::Model;
 
 /// An own number whose node was made, and the epoch in which it was made.
@@ -32,6 +34,8 @@ impl Model for Name {
 #[derive(Drop)]
 pub(crate) struct Names {
     names: Vec<Name>,
+    /// The place of each number.
+    places: BTreeMap<u64, usize>,
 }
 
 impl Model for Names {
@@ -40,7 +44,11 @@ impl Model for Names {
 
     ghost Value = { List OwnName };
 
+    ghost use Rattle.b1_judge_facts.specs.Indexes.{HasPlaces};
+
     ghost view = { λ x. x.names.items };
+
+    ghost invariant = { λ x. HasPlaces x.names.items x.places };
 }
 
 impl Names {
@@ -50,10 +58,11 @@ impl Names {
     {
         Names {
             names: Vec::new(alloc),
+            places: BTreeMap::new(alloc),
         }
     }
 
-    /// Adds the own numbers that aren't known yet, as made in an epoch.
+    /// Adds the own numbers that aren't known yet, as made in an epoch. Takes a time of log n for each.
     pub(crate) fn add(&mut self, epoch: u64, numbers: &[u64]) -> Result<(), AllocError>
         ensures { OnOk result (self.new ≡ add_new epoch self.old numbers.now) }
     {
@@ -63,39 +72,52 @@ impl Names {
         Ok(())
     }
 
-    /// Adds a number, if it is an own one and isn't known yet.
+    /// Adds a number, if it is an own one and isn't known yet. Takes a time of log n.
     pub(crate) fn add_one(&mut self, epoch: u64, number: u64) -> Result<(), AllocError>
         ensures { OnOk result (self.new ≡ with_name epoch number self.old) }
     {
-        if number % 4 != 0 || is_known(self.names.as_slice(), number) {
+        if number % 4 != 0 || self.is_known(number) {
             return Ok(());
         }
-        self.names.push(Name { number, epoch })?;
-        Ok(())
+        put(&mut self.names, &mut self.places, Name { number, epoch })
     }
 
-    /// The node that an own number names.
+    /// Whether a number stands among the names. Takes a time of log n.
+    fn is_known(&self, number: u64) -> bool
+        ensures { result ≡ is_known number self.now }
+    {
+        self.places.contains_key(&number)
+    }
+
+    /// The node that an own number names. Takes a time of log n.
     pub(crate) fn node(&self, owner: u32, number: u64) -> Option<NodeId>
         ensures { result ≡ own_node owner self.now number }
     {
-        find_node(self.names.as_slice(), owner, number)
+        match self.places.get(&number) {
+            Some(place) => node_at(self.names.as_slice(), owner, *place),
+            None => None,
+        }
     }
 
-    /// All nodes of a peer but those that are gone. An error is want of memory.
+    /// All nodes of a peer but those that are gone. Takes a time in proportion to the nodes that were made since the
+    /// last time that all were gone, but for a logarithm. An error is want of memory.
     pub(crate) fn live(
         &self,
         alloc: Global,
         owner: u32,
-        gone: &BTreeSet<(u32, u64)>,
+        gone: &mut Gone,
     ) -> Result<Items<Option<NodeId>>, AllocError>
-        ensures { IfOk result (λ nodes. nodes ≡ map Some (live (is_gone gone.now) owner self.now)) }
+        ensures nodes { IfOk result (λ nodes. nodes
+            ≡ map Some (live (is_gone gone.old) owner self.now)) }
+        ensures gone { gone.new ≡ gone.old }
     {
         let mut nodes = Vec::new(alloc);
-        for (serial, name) in self.names.iter().enumerate() {
+        let first = gone.skip(owner, self.names.len());
+        for serial in first..self.names.len() {
             let node = NodeId {
                 owner,
                 serial: serial as u64,
-                epoch: name.epoch,
+                epoch: self.names[serial].epoch,
             };
             push_live(&mut nodes, node, gone)?;
         }
@@ -111,48 +133,59 @@ impl Names {
             None => None,
         }
     }
+
+    /// The same numbers again. An error is want of memory.
+    pub(crate) fn copy(&self, alloc: Global) -> Result<Names, AllocError>
+        ensures { IfOk result (λ names. names ≡ self.now) }
+    {
+        Ok(Names {
+            names: Vec::from_slice(alloc, self.names.as_slice())?,
+            places: self.places.clone()?,
+        })
+    }
+}
+
+/// Puts a name that isn't known behind the others. An error is want of memory.
+fn put(
+    names: &mut Vec<Name>,
+    places: &mut BTreeMap<u64, usize>,
+    name: Name,
+) -> Result<(), AllocError>
+    requires placed { HasPlaces names.old.items places.old }
+    requires new { is_known name.number names.old.items ≡ false }
+    ensures placed { HasPlaces names.new.items places.new }
+    ensures put { OnOk result (names.new.items ≡ names.old.items ++ name ∷ []) }
+{
+    names.reserve(1)?;
+    places.insert(name.number, names.len())?;
+    match names.push(name) {
+        Ok(()) => Ok(()),
+        Err(_) => unreachable!(),
+    }
+}
+
+/// The node of the name at a place.
+fn node_at(names: &[Name], owner: u32, place: usize) -> Option<NodeId>
+    ensures { result ≡ named_at owner place names.now }
+{
+    match names.get(place) {
+        Some(name) => Some(NodeId {
+            owner,
+            serial: place as u64,
+            epoch: name.epoch,
+        }),
+        None => None,
+    }
 }
 
 /// Adds a node, unless it is gone.
-fn push_live(
-    nodes: &mut Vec<Option<NodeId>>,
-    node: NodeId,
-    gone: &BTreeSet<(u32, u64)>,
-) -> Result<(), AllocError>
+fn push_live(nodes: &mut Vec<Option<NodeId>>, node: NodeId, gone: &Gone) -> Result<(), AllocError>
     ensures { OnOk result (nodes.new.items ≡ nodes.old.items
         ++ (if is_gone gone.now node then [] else Some node ∷ [])) }
 {
-    if gone.contains(&(node.owner, node.serial)) {
+    if gone.has(&node) {
         return Ok(());
     }
     nodes.push(Some(node))?;
     Ok(())
-}
-
-/// Whether a number stands among the names.
-fn is_known(names: &[Name], number: u64) -> bool
-    ensures { result ≡ is_known number names.now }
-{
-    for name in names {
-        if name.number == number {
-            return true;
-        }
-    }
-    false
-}
-
-/// The node that an own number names.
-fn find_node(names: &[Name], owner: u32, number: u64) -> Option<NodeId>
-    ensures { result ≡ node_from owner 0 number names.now }
-{
-    for (serial, name) in names.iter().enumerate() {
-        if name.number == number {
-            return Some(NodeId {
-                owner,
-                serial: serial as u64,
-                epoch: name.epoch,
-            });
-        }
-    }
-    None
 }

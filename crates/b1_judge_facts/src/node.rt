@@ -1,6 +1,3 @@
-ghost use Rattle.std.specs.Prelude.{◌≡◌};
-ghost use Rattle.b1_model.specs.Ledger.{is_the_node};
-
 use std::marker::Model;
 
 /// A node: its owner, its place among the nodes that the owner made, from 0, and the owner's epoch when it was made.
@@ -22,14 +19,4 @@ impl Model for NodeId {
     ghost view = { λ x. record { owner = x.owner; serial = x.serial; epoch = x.epoch } };
 
     ghost inverse = { λ x. record { owner = x.owner; serial = x.serial; epoch = x.epoch } };
-}
-
-/// Whether what a number names is this node.
-pub(crate) fn is_the_node(node: &NodeId, named: Option<NodeId>) -> bool
-    ensures { result ≡ is_the_node node.now named }
-{
-    match named {
-        Some(other) => node.owner == other.owner && node.serial == other.serial,
-        None => false,
-    }
 }

@@ -35,7 +35,19 @@ impl Standing {
         Ok(())
     }
 
-    /// What a number names at a peer.
+    /// The same again. An error is want of memory.
+    pub(crate) fn copy(&self, alloc: Global) -> Result<Standing, AllocError>
+        ensures { IfOk result (λ standing. standing ≡ self.now) }
+    {
+        Ok(Standing {
+            names: self.names.copy(alloc)?,
+            table: self.table.copy(alloc)?,
+            epoch: self.epoch,
+            last: self.last,
+        })
+    }
+
+    /// What a number names at a peer. Takes a time of log n.
     pub(crate) fn named(&self, peer: u32, number: u64) -> Option<NodeId>
         ensures { result ≡ named peer self.now.names self.now.table number }
     {

@@ -1,37 +1,20 @@
-ghost use Rattle.std.specs.Prelude.{◌≡◌, suc, [], slice_get, Option, Some, IfOk, OnOk};
+ghost use Rattle.std.specs.Prelude.{◌≡◌, [], slice_get, Option, Some, IfOk, OnOk, IsTrue};
 ghost use Rattle.std.specs.Option.{option_flatten};
-ghost use Rattle.b1_model.specs.Ledger.{line_node, line_number, given_number, gained, received, received_all, handed, raised, lowered};
-ghost use Rattle.b1_judge_facts.specs.Steps.{line_from, less_held};
+ghost use Rattle.b1_model.specs.Ledger.{line_node, line_number, given_number, gained, received, received_all, handed, lowered};
+ghost use Rattle.b1_judge_facts.specs.Steps.{beside, received_beside};
 
-use crate::node::{NodeId, is_the_node};
+use crate::lines::{Line, Lines};
+use crate::node::NodeId;
 use std::alloc::{AllocError, Global};
 use std::marker::Model;
 
 /// The lines that a table may ever make; no memory has more.
 const MOST: u64 = 1 << 60;
 
-/// A given number, the node that it names, and how often it is held.
-#[derive(Clone, Copy, Debug)]
-pub(crate) struct Line {
-    number: u64,
-    node: Option<NodeId>,
-    held: u64,
-}
-
-impl Model for Line {
-    ghost use Rattle.b1_model.specs.Ledger.{Line as TableLine};
-
-    ghost Value = { TableLine };
-
-    ghost view = { λ x. record { number = x.number; node = x.node; held = x.held } };
-
-    ghost inverse = { λ x. record { number = x.number; node = x.node; held = x.held } };
-}
-
 /// What the given numbers of a peer name.
 #[derive(Drop)]
 pub(crate) struct Table {
-    lines: Vec<Line>,
+    lines: Lines,
     /// How many lines were ever made, at most `MOST`.
     given: u64,
 }
@@ -42,7 +25,7 @@ impl Model for Table {
 
     ghost Value = { HandleTable };
 
-    ghost view = { λ t. record { lines = t.lines.items; given = t.given } };
+    ghost view = { λ t. record { lines = t.lines; given = t.given } };
 
     ghost invariant = { λ t. t.given ≤ 2 ^ 60 };
 }
@@ -53,33 +36,70 @@ impl Table {
         ensures { result ≡ record { lines = []; given = 0 } }
     {
         Table {
-            lines: Vec::new(alloc),
+            lines: Lines::new(alloc),
             given: 0,
         }
     }
 
-    /// The node of a number's line.
+    /// The node of a number's line. Takes a time of log n.
     pub(crate) fn node(&self, number: u64) -> Option<NodeId>
         ensures { result ≡ line_node number self.now.lines }
     {
-        find_node(self.lines.as_slice(), number)
+        self.lines.node(number)
     }
 
-    /// The number of a node's line.
+    /// The number of a node's line. Takes a time of log n.
     pub(crate) fn number(&self, node: &NodeId) -> Option<u64>
         ensures { result ≡ line_number node.now self.now.lines }
     {
-        find_number(self.lines.as_slice(), node)
+        self.lines.number(node)
     }
 
-    /// The number by which a node is handed to the holder: that of its line, or else the next one.
+    /// The number by which a node is handed to the holder: that of its line, or else the next one. Takes a time of
+    /// log n.
     pub(crate) fn number_for(&self, node: &NodeId) -> u64
         ensures { result ≡ given_number self.now.given (line_number node.now self.now.lines) }
     {
-        match find_number(self.lines.as_slice(), node) {
+        match self.lines.number(node) {
             Some(number) => number,
             None => 2 + 4 * self.given,
         }
+    }
+
+    /// Whether it has no lines.
+    pub(crate) fn is_empty(&self) -> bool
+        ensures { IsTrue result → self.now.lines ≡ [] }
+    {
+        self.lines.is_empty()
+    }
+
+    /// The number by which a node is handed to the holder, where lines were made beside this table.
+    pub(crate) fn number_beside(&self, made: &Table, node: &NodeId) -> u64
+        ensures { result ≡ given_number (beside self.now made.now).given
+            (line_number node.now (beside self.now made.now).lines) }
+    {
+        match self.lines.number(node) {
+            Some(number) => number,
+            None => match made.lines.number(node) {
+                Some(number) => number,
+                None => 2 + 4 * (self.given + made.given),
+            },
+        }
+    }
+
+    /// Takes a number in a slot that has a node, beside this table. An error is want of memory.
+    pub(crate) fn receive_beside(
+        &self,
+        made: &mut Table,
+        number: u64,
+        node: Option<NodeId>,
+    ) -> Result<(), AllocError>
+        ensures { OnOk result (made.new ≡ received_beside number node self.now made.old) }
+    {
+        if self.lines.has(number) {
+            return Ok(());
+        }
+        made.receive(number, node)
     }
 
     /// Takes a number in a slot that has a node. An error is want of memory.
@@ -96,8 +116,8 @@ impl Table {
     fn gain(&mut self, number: u64, node: Option<NodeId>) -> Result<(), AllocError>
         ensures { OnOk result (self.new ≡ gained number node self.old) }
     {
-        if let Some(place) = find_line(self.lines.as_slice(), number) {
-            return raise(&mut self.lines, place, number);
+        if self.lines.has(number) {
+            return self.lines.raise(number);
         }
         if self.given >= MOST {
             return Err(AllocError);
@@ -138,13 +158,11 @@ impl Table {
         }
     }
 
-    /// Gives up one of a number; its line goes with the last.
+    /// Gives up one of a number; its line goes with the last. Takes a time of log n.
     pub(crate) fn release(&mut self, number: u64)
         ensures { self.new ≡ record self.old { lines = lowered number self.old.lines } }
     {
-        if let Some(place) = find_line(self.lines.as_slice(), number) {
-            lower(&mut self.lines, place, number);
-        }
+        self.lines.lower(number);
     }
 
     /// Forgets all lines.
@@ -159,7 +177,7 @@ impl Table {
         ensures { IfOk result (λ table. table ≡ self.now) }
     {
         Ok(Table {
-            lines: Vec::from_slice(alloc, self.lines.as_slice())?,
+            lines: self.lines.copy(alloc)?,
             given: self.given,
         })
     }
@@ -173,90 +191,4 @@ pub(crate) fn slot(slots: &[Option<NodeId>], index: usize) -> Option<NodeId>
         Some(node) => *node,
         None => None,
     }
-}
-
-/// The node of a number's line.
-fn find_node(lines: &[Line], number: u64) -> Option<NodeId>
-    ensures { result ≡ line_node number lines.now }
-{
-    for line in lines {
-        if line.number == number {
-            return line.node;
-        }
-    }
-    None
-}
-
-/// The number of a node's line.
-fn find_number(lines: &[Line], node: &NodeId) -> Option<u64>
-    ensures { result ≡ line_number node.now lines.now }
-{
-    for line in lines {
-        if is_the_node(node, line.node) {
-            return Some(line.number);
-        }
-    }
-    None
-}
-
-/// Where a number's line stands.
-fn find_line(lines: &[Line], number: u64) -> Option<usize>
-    ensures { result ≡ line_from 0 number lines.now }
-{
-    for (place, line) in lines.iter().enumerate() {
-        if line.number == number {
-            return Some(place);
-        }
-    }
-    None
-}
-
-/// Adds one to the line at a place, which has a number. An error is want of memory.
-fn raise(lines: &mut Vec<Line>, place: usize, number: u64) -> Result<(), AllocError>
-    requires { line_from 0 number lines.old.items ≡ Some place }
-    ensures { OnOk result (lines.new.items ≡ raised number lines.old.items) }
-{
-    lines[place] = more(lines[place])?;
-    Ok(())
-}
-
-/// Takes one from the line at a place, which has a number; at the last the line goes.
-fn lower(lines: &mut Vec<Line>, place: usize, number: u64)
-    requires { line_from 0 number lines.old.items ≡ Some place }
-    ensures { lines.new.items ≡ lowered number lines.old.items }
-{
-    match less(lines[place]) {
-        Some(line) => lines[place] = line,
-        None => {
-            lines.remove(place);
-        }
-    }
-}
-
-/// The line with one more that is held. An error is want of memory.
-fn more(line: Line) -> Result<Line, AllocError>
-    ensures { IfOk result (λ more. more ≡ record line { held = suc line.held }) }
-{
-    match line.held.checked_add(1) {
-        Some(held) => Ok(Line {
-            number: line.number,
-            node: line.node,
-            held,
-        }),
-        None => Err(AllocError),
-    }
-}
-
-/// The line with one less that is held; `None` where it was the last.
-fn less(line: Line) -> Option<Line>
-    ensures { result ≡ less_held line }
-{
-    if line.held == 1 {
-        return None;
-    }
-    Some(Line {
-        number: line.number,
-        node: line.node,
-        held: line.held.saturating_sub(1),
-    })
 }

@@ -1,17 +1,17 @@
-ghost use Rattle.std.specs.Prelude.{◌≡◌, suc, ◌<◌, length, Option, IfOk};
+ghost use Rattle.std.specs.Prelude.{◌≡◌, suc, ◌<◌, [], length, Option, IfOk, IsTrue};
 ghost use Rattle.std.specs.Option.{option_copied};
-ghost use Rattle.b1_model.specs.Names.{made, epoch_at, number_at, calls_of};
+ghost use Rattle.b1_model.specs.Names.{made, made as made_names, epoch_at, number_at, calls_of};
 ghost use Rattle.b1_model.specs.Ledger.{is_below, line_number, table};
 ghost use Rattle.b1_model.specs.Legal.{last_key, is_above, is_open_to, is_message_in, is_message, is_notice_of, is_notice, arrives, arrived, handle_number, own_number_of, notice_number};
 ghost use Rattle.b1_judge_facts.specs.Walks.{at, is_late_at, doomed_node};
 ghost use Rattle.b1_judge_facts.specs.Facts.{CarriesNone};
+ghost use Rattle.b1_judge_facts.specs.Steps.{beside};
 
 use crate::facts::Facts;
 use crate::gather::calls_of;
 use crate::message::Message;
 use crate::node::NodeId;
 use crate::standing::Standing;
-use crate::start::begin;
 use crate::table::Table;
 use b1_ledger::keys_are_ordered_as_in_queues;
 use b1_model::{INVALID, Key, Nums, Opening, Record, key_cmp};
@@ -48,26 +48,25 @@ impl<'a> Model for Walk<'a> {
 }
 
 impl<'a> Walk<'a> {
-    /// Before the first call of a peer. An error is want of memory.
+    /// Before the first call of a peer. Takes a time in proportion to what the wires make and give at the peer. An error
+    /// is want of memory.
     pub fn start(alloc: Global, facts: &Facts<'a>, peer: u32) -> Result<Walk<'a>, AllocError>
         requires { peer < length facts.now.rec.peers }
         ensures { IfOk result (λ walk. walk
             ≡ record { wires = facts.now.wires; rec = facts.now.rec; peer = peer; call = 0 }) }
     {
-        let Facts { opening, rec, .. } = facts;
-        let mut all = begin(alloc, opening.wires.as_slice(), rec.peers.len())?;
-        let standing = all.swap_remove(peer as usize);
+        let standing = facts.starts[peer as usize].copy(alloc)?;
         Ok(Walk {
-            opening,
-            rec,
+            opening: facts.opening,
+            rec: facts.rec,
             peer,
             call: 0,
             standing,
         })
     }
 
-    /// Goes past the next call. Takes a time in proportion to what the peer holds and to the numbers of the call. An
-    /// error is want of memory.
+    /// Goes past the next call. Takes a time of log n for each number of the call, and for a flush one in proportion to
+    /// what the peer holds. An error is want of memory.
     pub fn pass(self, facts: &Facts<'a>) -> Result<Walk<'a>, AllocError>
         requires wires { self.wires ≡ facts.now.wires }
         requires rec { self.rec ≡ facts.now.rec }
@@ -120,7 +119,14 @@ impl<'a> Walk<'a> {
         self.standing.epoch
     }
 
-    /// The number of a node's line in the peer's table.
+    /// Whether the peer's table has no lines.
+    pub fn holds_none(&self) -> bool
+        ensures { IsTrue result → (at table self.now).lines ≡ [] }
+    {
+        self.standing.table.is_empty()
+    }
+
+    /// The number of a node's line in the peer's table. Takes a time of log n.
     pub fn line_number(&self, node: &NodeId) -> Option<u64>
         ensures { result ≡ line_number node.now (at table self.now).lines }
     {
@@ -224,8 +230,8 @@ impl<'a> Walk<'a> {
         }
     }
 
-    /// The handles with which a message arrives at the peer, where it carries these nodes and has this key. An error is
-    /// want of memory.
+    /// The handles with which a message arrives at the peer, where it carries these nodes and has this key. Takes a time
+    /// of log n for each. An error is want of memory.
     pub fn arrived(
         &self,
         alloc: Global,
@@ -240,52 +246,48 @@ impl<'a> Walk<'a> {
             ≡ arrived (is_late_at self.now key.now) self.now.peer (at made self.now) carried.now
             (at table self.now)) }
     {
-        let mut table = self.table(alloc)?;
+        let mut made = Table::new(alloc);
         let mut numbers = Vec::with_capacity(alloc, carried.len())?;
         for node in carried {
-            let number = self.arrives(facts, key, &table, *node);
-            table.receive(number, *node)?;
+            let number = self.arrives(facts, key, &made, *node);
+            self.standing
+                .table
+                .receive_beside(&mut made, number, *node)?;
             numbers.push(number)?;
         }
         Ok(Nums::from_vec(numbers))
     }
 
-    /// A copy of the peer's table. An error is want of memory.
-    fn table(&self, alloc: Global) -> Result<Table, AllocError>
-        ensures { IfOk result (λ t. t ≡ at table self.now) }
-    {
-        self.standing.table.copy(alloc)
-    }
-
-    /// The number with which the node of a slot arrives, by the table at that slot.
-    fn arrives(&self, facts: &Facts<'a>, key: &Key, table: &Table, node: Option<NodeId>) -> u64
+    /// The number with which the node of a slot arrives, where earlier slots made lines beside the table.
+    fn arrives(&self, facts: &Facts<'a>, key: &Key, made: &Table, node: Option<NodeId>) -> u64
         requires wires { self.now.wires ≡ facts.now.wires }
         requires rec { self.now.rec ≡ facts.now.rec }
         requires none { CarriesNone self.now.rec self.now.peer self.now.call }
         ensures { result ≡ arrives (is_late_at self.now key.now) self.now.peer
-            (at made self.now) table.now node }
+            (at made_names self.now) (beside (at table self.now) made.now) node }
     {
         match node {
             Some(node) => {
                 if facts.is_late(&node, key) {
                     INVALID
                 } else {
-                    self.handle_number(table, &node)
+                    self.handle_number(made, &node)
                 }
             }
             None => INVALID,
         }
     }
 
-    /// The number by which the peer gets to know a node, by its table at that slot.
-    fn handle_number(&self, table: &Table, node: &NodeId) -> u64
+    /// The number by which the peer gets to know a node, where earlier slots made lines beside its table.
+    fn handle_number(&self, made: &Table, node: &NodeId) -> u64
         requires none { CarriesNone self.now.rec self.now.peer self.now.call }
-        ensures { result ≡ handle_number self.now.peer (at made self.now) table.now node.now }
+        ensures { result ≡ handle_number self.now.peer (at made_names self.now)
+            (beside (at table self.now) made.now) node.now }
     {
         if node.owner == self.peer {
             self.number_at(node.serial).unwrap_or(INVALID)
         } else {
-            table.number_for(node)
+            self.standing.table.number_beside(made, node)
         }
     }
 }

@@ -1,19 +1,13 @@
-use Rattle.std.proofs.Common.{sym, ◌∙◌, subst}
-use Rattle.b1_judge_facts.specs.Start.{AreWithin, AreBegun}
-use Rattle.b1_judge_facts.proofs.Starts.{within}
+use Rattle.std.specs.Prelude.{length}
+use Rattle.std.proofs.Common.{refl, ◌∙◌}
 use Rattle.b1_judge_facts.proofs.Ends.{started, peer_there, not_past, stamp_there, taken, at_stamp, gathered_all}
 use Rattle.b1_judge_facts.proofs.facts.Facts.gather.Goals as goal
 
-pub begin-requires-clause-within : goal.begin-requires-clause-within
-begin-requires-clause-within c =
-    subst (λ ws. AreWithin c.len.result ws) (sym c.as_slice.ensures)
-    (subst (λ n. AreWithin n c.args.opening.now.wires) (sym (c.len.ensures ∙ c.requires.peers)) (within _ _ c.args.opening.now.wires c.requires.opening.wires))
-
 pub loop-stamp-init : goal.loop-stamp-init
 loop-stamp-init c =
-    started c.args.opening.now.wires c.args.rec.now c.requires.order c.as_slice-stamp-items.result.now c.in_ok-standings.standings.items c.len.result c.in_ok-gathering.gathering
-    (c.as_slice-stamp-items.ensures ∙ c.in_ok-order.ensures) c.len.ensures
-    (subst (λ ws. AreBegun ws ws c.len.result c.in_ok-standings.standings.items) c.as_slice.ensures c.in_ok-standings.ensures) c.in_ok-gathering.ensures
+    started c.args.opening.now.wires c.args.rec.now c.requires.order c.as_slice-stamp-items.result.now c.in_ok-starts.field-0.items (length c.args.rec.now.peers) c.in_ok-gathering.gathering
+    (c.as_slice-stamp-items.ensures ∙ c.in_ok-order.ensures) refl
+    c.in_ok-starts.ensures c.in_ok-gathering.ensures
 
 pub take-requires-clause-peer : goal.take-requires-clause-peer
 take-requires-clause-peer c =
@@ -39,6 +33,7 @@ pub invariant_of-result : goal.invariant_of-result
 invariant_of-result c = record {
   opens = c.requires.opening;
   peers = c.requires.peers;
+  starts_are = c.in_ok-starts-2.ensures;
   kept = gathered_all c.args.opening.now.wires c.args.rec.now c.requires.order c.as_slice-stamp-items.result.now c.in_ok-order.order c.loop-stamp.stamp-index c.loop-stamp.gathering
       c.as_slice-stamp-items.ensures c.in_ok-order.ensures c.loop-stamp-test.false c.loop-stamp.invariant;
 }

@@ -2,7 +2,7 @@
 use Rattle.std.proofs.Common.{suc, refl, subst, sym}
 use Rattle.std.proofs.lemmas.Option.{slice_get_read}
 use Rattle.b1_model.specs.Ledger.{slots_by}
-use Rattle.b1_judge_facts.specs.Kept.{kept_at, Keeps, Marks, Adds}
+use Rattle.b1_judge_facts.specs.Kept.{kept_at, Keeps, Marks, Adds, kept_nodes}
 use Rattle.b1_judge_facts.specs.Gathering.{Reaches}
 use Rattle.std.specs.Prelude.{slice_get, ◌≡◌, ◌<◌, length, Some}
 use Rattle.b1_judge_facts.proofs.gather.Gathering.take.Goals as goal
@@ -21,10 +21,10 @@ returns c = record {
   reaches = subst (λ cs. Reaches (slots_by (kept_at c.args.self.now.messages) c.args.stamp.now.origin) cs (suc c.args.stamp.now.call) c.index_mut-pace.result.now c.reach.new.self) c.calls_of-calls.ensures c.in_ok-reach.ensures;
   messages_are = subst (λ m. Keeps c.args.stamp.now.stamp c.args.stamp.now.origin m c.args.self.now.messages c.keep_message.new.messages) c.in_ok-message.ensures c.in_ok-keep_message.ensures;
   nodes = c.in_ok-nodes.nodes;
-  nodes_are = c.in_ok-nodes.ensures;
+  nodes_are = c.in_ok-nodes.ensures.nodes;
   destroyed_are = c.in_ok-keep_nodes.ensures;
   first_are = subst (λ l. Marks c.args.stamp.now.stamp c.args.stamp.now.origin l c.args.self.now.first c.mark_first.new.first) c.nodes_of-2.ensures c.in_ok-mark_first.ensures;
-  gone_are = subst (λ l. Adds l c.reach.new.self.gone c.mark_gone.new.gone) c.nodes_of.ensures c.in_ok-mark_gone.ensures;
+  gone_are = subst (λ g. Adds (kept_nodes c.in_ok-nodes.nodes) g c.mark_gone.new.gone) c.in_ok-nodes.ensures.gone (subst (λ l. Adds l c.doomed_by.new.gone c.mark_gone.new.gone) c.nodes_of.ensures c.in_ok-mark_gone.ensures);
   same_standing = refl;
   same_call = refl;
   paces_are = refl;

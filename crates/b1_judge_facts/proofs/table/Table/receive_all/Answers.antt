@@ -1,4 +1,4 @@
-use Rattle.b1_judge_facts.proofs.Lines.{received_step}
+use Rattle.b1_judge_facts.proofs.LinesLeft.{received_step}
 use Rattle.b1_judge_facts.proofs.table.Table.receive_all.Goals as goal
 
 pub loop-index-preserved : goal.loop-index-preserved

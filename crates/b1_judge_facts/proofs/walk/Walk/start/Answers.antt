@@ -1,16 +1,13 @@
-use Rattle.std.proofs.Common.{sym, subst, ◌∙◌, refl, ◌<◌, length}
+use Rattle.std.specs.Prelude.{◌<◌, length}
+use Rattle.std.proofs.Common.{arith, refl, sym, subst, ◌∙◌}
 use Rattle.std.proofs.lemmas.Option.{slice_get_read}
-use Rattle.b1_judge_facts.specs.Start.{AreWithin, AreBegun}
-use Rattle.b1_judge_facts.proofs.Starts.{within}
 use Rattle.b1_judge_facts.proofs.walk.Walk.start.Goals as goal
 
-pub begin-requires-clause-within : goal.begin-requires-clause-within
-begin-requires-clause-within c =
-    subst (λ ws. AreWithin c.len.result ws) (sym c.as_slice.ensures)
-    (subst (λ n. AreWithin n c.facts.inside.opening.now.wires) (sym (c.len.ensures ∙ c.facts.invariant.peers)) (within _ _ c.facts.inside.opening.now.wires c.facts.invariant.opens.wires))
+pub index-requires : goal.index-requires
+index-requires c = omega (arith, c.facts.invariant.starts_are.count, subst (λ v. c.args.peer < length v.rec.peers) (sym c.facts.view_is) c.requires)
 
 pub invariant_of-result : goal.invariant_of-result
 invariant_of-result c =
-    let begun : AreBegun c.facts.inside.opening.now.wires c.facts.inside.opening.now.wires c.len.result c.in_ok-all.all.items = subst (λ ws. AreBegun ws ws c.len.result c.in_ok-all.all.items) c.as_slice.ensures c.in_ok-all.ensures in
-    begun.each c.args.peer c.swap_remove-standing.result
-    (slice_get_read c.in_ok-all.all.items _ c.args.peer c.swap_remove-standing.result refl (subst (λ n. c.args.peer < n) (sym (begun.count ∙ c.len.ensures)) (subst (λ v. c.args.peer < length v.rec.peers) (sym c.facts.view_is) c.requires)) c.swap_remove-standing.ensures.value)
+    c.in_ok-standing.ensures
+    ∙ c.facts.invariant.starts_are.each c.args.peer c.index.result.now
+    (slice_get_read c.facts.inside.starts.items _ c.args.peer c.index.result.now refl (subst (λ n. c.args.peer < n) (sym c.facts.invariant.starts_are.count) (subst (λ v. c.args.peer < length v.rec.peers) (sym c.facts.view_is) c.requires)) c.index.ensures)
