@@ -1,3 +1,6 @@
+ghost use Rattle.std.specs.Prelude.{All, IfOk, OnOk};
+ghost use Rattle.b1_port_memory.specs.Memory.{HasEvenStamp};
+
 use crate::port_calls::{
     port_attempt, port_destroy, port_recv, port_release, port_reserve, port_send,
     port_slice_release,
@@ -19,7 +22,9 @@ fn one_byte(alloc: Global, to: &[u64]) -> Result<SendCmd, AllocError> {
 }
 
 // A message with stamp 6 of peer 1, to node 4.
-fn message_six(alloc: Global) -> Result<Receipt, AllocError> {
+fn message_six(alloc: Global) -> Result<Receipt, AllocError>
+    ensures { IfOk result HasEvenStamp }
+{
     Ok(Receipt::Message {
         key: Key {
             stamp: 6,
@@ -33,14 +38,31 @@ fn message_six(alloc: Global) -> Result<Receipt, AllocError> {
     })
 }
 
-// A port that gives a message with stamp 6 and a release notice with stamp 8, and refuses its second send.
-fn six_and_eight(alloc: Global) -> Result<MemPort, AllocError> {
-    let mut gives = Vec::with_capacity(alloc, 2)?;
-    gives.push(message_six(alloc)?)?;
-    gives.push(Receipt::Released {
+// A release notice with stamp 8.
+fn released_eight() -> Receipt
+    ensures { HasEvenStamp result }
+{
+    Receipt::Released {
         stamp: 8,
         number: 4,
-    })?;
+    }
+}
+
+// Puts a receipt behind the others.
+fn give(gives: &mut Vec<Receipt>, receipt: Receipt) -> Result<(), AllocError>
+    requires all { All HasEvenStamp gives.old.items }
+    requires this { HasEvenStamp receipt }
+    ensures { OnOk result (All HasEvenStamp gives.new.items) }
+{
+    gives.push(receipt)?;
+    Ok(())
+}
+
+// A port that gives a message with stamp 6 and a release notice with stamp 8, and refuses its second send.
+fn six_and_eight(alloc: Global) -> Result<MemPort, AllocError> {
+    let mut gives = Vec::new(alloc);
+    give(&mut gives, message_six(alloc)?)?;
+    give(&mut gives, released_eight())?;
     let fails = Vec::from_slice(alloc, &[1])?;
     Ok(MemPort::make(alloc, gives, fails))
 }
