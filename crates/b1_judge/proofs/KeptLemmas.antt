@@ -1,6 +1,6 @@
 -- What the tests of stamps tell of a call.
-use Rattle.std.specs.Prelude.{◌≡◌, refl, ℕ, ◌<◌, ◌%◌, ◌↔◌, Bool, true, false, not, List, take, length, get_or, slice_get, Option, None, Some, ◌==◌, IsTrue}
-use Rattle.std.proofs.Common.{arith, sym, ◌∙◌, ap, subst}
+use Rattle.std.specs.Prelude.{◌≡◌, refl, ℕ, zero, suc, ◌+◌, ◌<◌, ◌%◌, ◌↔◌, ◌⊎◌, Bool, true, false, not, if◌then◌else◌, List, [], ◌∷◌, take, length, get_or, slice_get, Option, None, Some, ◌==◌, IsTrue}
+use Rattle.std.proofs.Common.{arith, inl, inr, sym, ◌∙◌, ap, subst}
 use Rattle.std.proofs.lemmas.Option.{same_Some, slice_get_within, slice_get_read}
 use Rattle.std.proofs.lemmas.Bool.Decides.{Decides-eqb}
 use Rattle.std.proofs.lemmas.List.{length-take}
@@ -8,9 +8,13 @@ use Rattle.b1_model.specs.declared.records.Call.{Call}
 use Rattle.b1_model.specs.declared.records.Record.{Record}
 use Rattle.b1_model.specs.Names.{calls_of}
 use Rattle.b1_model.specs.Ledger.{stamp_of}
-use Rattle.b1_model.specs.Legal.{KeepsKeys, KeepsOrder}
+use Rattle.b1_model.specs.Legal.{seen_stamp, KeepsKeys, KeepsOrder}
 use Rattle.b1_ledger.proofs.Sequences.{slice_get-take}
-use Rattle.b1_judge.specs.Stamps.{IsGivenIn, AreSeenBelow}
+use Rattle.std.specs.Ordering.{nat_cmp}
+use Rattle.std.specs.List.{list_any}
+use Rattle.std.specs.BTreeMap.{is_at}
+use Rattle.std.specs.BTreeSet.{BTreeSet, contains}
+use Rattle.b1_judge.specs.Stamps.{IsGivenIn, AreSeenBelow, AreGiven, Gives, IsBelow, IsMost}
 
 -- an item of the front of a list stands before its end
 pub in_front : {A : Type 0} (xs : List A) (k i : ℕ) (x : A) → slice_get (take k xs) i ≡ Some x → (i < k) × (slice_get xs i ≡ Some x)
@@ -73,3 +77,80 @@ module _ (r : Record) (p k : ℕ) (c : Call) (at : slice_get (calls_of r p) k �
 
   pub order_unstamped : stamp_of c.answer ≡ None → KeepsOrder r p k
   order_unstamped is i s u x d l at_x at_d seen is_d = absurd (no_stamp (calls_of r p) k u c d at is at_d is_d)
+
+-- ---- one call more
+
+-- what stands in a longer front
+later : {A : Type 0} (xs : List A) (k i : ℕ) (x : A) → slice_get (take k xs) i ≡ Some x → slice_get (take (k + 1) xs) i ≡ Some x
+later xs k i x e =
+    let f = in_front xs k i x e in
+    slice_get-take xs (k + 1) i (omega (arith, f.0)) ∙ f.1
+
+last_one : {A : Type 0} (xs : List A) (k : ℕ) (x : A) → slice_get xs k ≡ Some x → slice_get (take (k + 1) xs) k ≡ Some x
+last_one xs k x e = slice_get-take xs (k + 1) k (omega arith) ∙ e
+
+earlier_or : {A : Type 0} (xs : List A) (k i : ℕ) (c x : A) → slice_get xs k ≡ Some c → slice_get (take (k + 1) xs) i ≡ Some x → (slice_get (take k xs) i ≡ Some x) ⊎ (x ≡ c)
+earlier_or xs k i c x at e = go (before i k (in_front xs (k + 1) i x e).0)
+  where
+    before : (i k : ℕ) → i < k + 1 → (i < k) ⊎ (i ≡ k)
+    before i k l = grind arith
+
+    go : ((i < k) ⊎ (i ≡ k)) → (slice_get (take k xs) i ≡ Some x) ⊎ (x ≡ c)
+    go (inl l) = inl (slice_get-take xs k i l ∙ (in_front xs (k + 1) i x e).1)
+    go (inr f) = inr (same_Some x c (sym (in_front xs (k + 1) i x e).1 ∙ ap (slice_get xs) f ∙ at))
+
+pub none_given : (given : BTreeSet ℕ) → given.keys ≡ [] → (cs : List Call) → AreGiven given (take 0 cs)
+none_given given e cs t = ((λ h. absurd (none (sym (ap (list_any (is_at (nat_cmp t))) e) ∙ h))), (λ g. absurd (empty cs g)))
+  where
+    none : false ≡ true → ⊥
+    none e = cc
+
+    empty : (cs : List Call) → IsGivenIn t (take 0 cs) → ⊥
+    empty [] g = cc g.2
+    empty (c ∷ cs) g = cc g.2
+
+pub given_next : (cs : List Call) (k : ℕ) (c : Call) (m n : BTreeSet ℕ) → slice_get cs k ≡ Some c → AreGiven m (take k cs) → Gives (stamp_of c.answer) m n → AreGiven n (take (k + 1) cs)
+given_next cs k c m n at h gives t = go (stamp_of c.answer) refl gives
+  where
+    more : IsGivenIn t (take k cs) → IsGivenIn t (take (k + 1) cs)
+    more g = (g.0, g.1, later cs k g.0 g.1 g.2, g.3)
+
+    back : (stamp_of c.answer ≡ Some t → ⊥) → IsGivenIn t (take (k + 1) cs) → IsGivenIn t (take k cs)
+    back other g = elim (earlier_or cs k g.0 c g.1 at g.2) [ inl e ↦ (g.0, g.1, e, g.3) | inr e ↦ absurd (other (ap (λ (x : Call). stamp_of x.answer) (sym e) ∙ g.3)) ]
+
+    there : (s : ℕ) → stamp_of c.answer ≡ Some s → (b : Bool) → (s == t) ≡ b → contains nat_cmp n t ≡ (if b then true else contains nat_cmp m t) → IsTrue (contains nat_cmp n t) ↔ IsGivenIn t (take (k + 1) cs)
+    there s is true e f =
+        let same : s ≡ t = (Decides-eqb s t).0 e in
+        ((λ _. (k, c, last_one cs k c at, is ∙ ap (λ x. Some x) same)), (λ _. f))
+    there s is false e f = (
+      (λ g. more ((h t).0 (sym f ∙ g))),
+      (λ g. f ∙ (h t).1 (back (λ y. cc (sym e ∙ (Decides-eqb s t).1 (same_Some s t (sym is ∙ y)))) g)),
+    )
+
+    go : (o : Option ℕ) → stamp_of c.answer ≡ o → Gives o m n → IsTrue (contains nat_cmp n t) ↔ IsGivenIn t (take (k + 1) cs)
+    go None is g = ((λ x. more ((h t).0 (sym (g t) ∙ x))), (λ x. g t ∙ (h t).1 (back (λ y. cc (is, y)) x)))
+    go (Some s) is g = there s is (s == t) refl (g t)
+
+pub none_seen : (cs : List Call) → IsMost None (take 0 cs)
+none_seen cs t = ((λ _ i s b at seen. absurd (empty cs i b at)), (λ _ s e. absurd (no_stamp_none s e)))
+  where
+    empty : (cs : List Call) (i : ℕ) (b : Call) → slice_get (take 0 cs) i ≡ Some b → ⊥
+    empty [] i b at = cc at
+    empty (c ∷ cs) i b at = cc at
+
+    no_stamp_none : (s : ℕ) → ◌≡◌ {A = Option ℕ} None (Some s) → ⊥
+    no_stamp_none s e = cc
+
+pub most_next : (cs : List Call) (k : ℕ) (c : Call) (one more : Option ℕ) → slice_get cs k ≡ Some c → IsMost one (take k cs) → ((t : ℕ) → IsBelow more t ↔ (IsBelow one t × IsBelow (seen_stamp c.answer) t)) → IsMost more (take (k + 1) cs)
+most_next cs k c one more at h both t = (
+  (λ below i s b here seen. (
+      let parts = (both t).0 below in
+      elim (earlier_or cs k i c b at here) [
+        | inl e ↦ (h t).0 parts.0 i s b e seen
+        | inr e ↦ parts.1 s (ap (λ (x : Call). seen_stamp x.answer) (sym e) ∙ seen)
+      ])),
+  (λ all. (both t).1 (
+    (h t).1 (λ i s b here seen. all i s b (later cs k i b here) seen),
+    λ s seen. all k s c (last_one cs k c at) seen,
+  )),
+)

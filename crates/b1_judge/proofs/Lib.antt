@@ -4,3 +4,4 @@ pub mod CandidateLemmas
 pub mod ContentsLemmas
 pub mod WalkLemmas
 pub mod JudgedLemmas
+pub mod Behind

@@ -1,6 +1,7 @@
 pub mod Words
 pub mod Frame
 pub mod Stamps
+pub mod Behind
 pub mod Candidates
 pub mod Contents
 pub mod Judged

@@ -3,13 +3,14 @@
 ghost use Rattle.std.specs.Prelude.{◌≡◌, ◌↔◌, map, is_none, IsTrue};
 ghost use Rattle.std.specs.List.{list_any, list_all};
 ghost use Rattle.b1_model.specs.Script.{resolved, resolved_handle, fits, FitsPlaces, HasPlaces};
+ghost use Rattle.b1_judge.specs.Behind.{behind};
 
-use b1_model::{Answer, Call, Command, Reason, SendCmd, Sent};
-use b1_script::{resolve_handle, resolve_offset};
+use crate::receipts::Receipts;
+use b1_model::{Answer, Command, Reason, SendCmd, Sent};
 
 /// Whether a command is another one that begins after some calls, with the references among its operands resolved.
-pub(crate) fn is_resolved(command: &Command, before: &[Call], made: &Command) -> bool
-    ensures { IsTrue result ↔ (made.now ≡ resolved command.now before.now) }
+pub(crate) fn is_resolved(command: &Command, before: &Receipts<'_>, made: &Command) -> bool
+    ensures { IsTrue result ↔ (made.now ≡ resolved command.now (behind before.now)) }
 {
     match (command, made) {
         (Command::Disconnect, Command::Disconnect) => true,
@@ -17,13 +18,13 @@ pub(crate) fn is_resolved(command: &Command, before: &[Call], made: &Command) ->
         (Command::Reset { limits }, Command::Reset { limits: found }) => limits == found,
         (Command::Limit { limits }, Command::Limit { limits: found }) => limits == found,
         (Command::Release { number }, Command::Release { number: found }) => {
-            *found == resolve_handle(before, *number)
+            *found == before.handle(*number)
         }
         (Command::Destroy { numbers }, Command::Destroy { numbers: found }) => {
             are_resolved(numbers.as_slice(), before, found.as_slice())
         }
         (Command::SliceRelease { offset }, Command::SliceRelease { offset: found }) => {
-            *found == resolve_offset(before, *offset)
+            *found == before.offset(*offset)
         }
         (Command::Send(send), Command::Send(found)) => is_resolved_send(send, before, found),
         (Command::Recv, Command::Recv) => true,
@@ -33,11 +34,11 @@ pub(crate) fn is_resolved(command: &Command, before: &[Call], made: &Command) ->
 }
 
 /// Whether a send is another one that begins after some calls, with its references resolved.
-fn is_resolved_send(send: &SendCmd, before: &[Call], made: &SendCmd) -> bool
+fn is_resolved_send(send: &SendCmd, before: &Receipts<'_>, made: &SendCmd) -> bool
     ensures { IsTrue result ↔ (made.now
         ≡ record send.now {
-          to = map (resolved_handle before.now) send.now.to;
-          with = map (resolved_handle before.now) send.now.with;
+          to = map (resolved_handle (behind before.now)) send.now.to;
+          with = map (resolved_handle (behind before.now)) send.now.with;
         }) }
 {
     send.go_on == made.go_on
@@ -47,14 +48,14 @@ fn is_resolved_send(send: &SendCmd, before: &[Call], made: &SendCmd) -> bool
 }
 
 /// Whether numbers are those of handles after some calls, with the references among them resolved.
-fn are_resolved(numbers: &[u64], before: &[Call], made: &[u64]) -> bool
-    ensures { IsTrue result ↔ (made.now ≡ map (resolved_handle before.now) numbers.now) }
+fn are_resolved(numbers: &[u64], before: &Receipts<'_>, made: &[u64]) -> bool
+    ensures { IsTrue result ↔ (made.now ≡ map (resolved_handle (behind before.now)) numbers.now) }
 {
     if numbers.len() != made.len() {
         return false;
     }
     for (index, number) in numbers.iter().enumerate() {
-        if made[index] != resolve_handle(before, *number) {
+        if made[index] != before.handle(*number) {
             return false;
         }
     }

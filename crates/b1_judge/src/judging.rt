@@ -41,10 +41,10 @@ fn judge_parts(alloc: Global, script: &Script, rec: &Record) -> Result<Verdict, 
 {
     let peers = rec.peers.len() as u32;
     let lists = &script.commands;
-    if let Some(found) = first_break(&Commands { lists, rec }, peers)? {
+    if let Some(found) = first_break(&Commands { alloc, lists, rec }, peers)? {
         return Ok(broken(Clause::Script, found));
     }
-    if let Some(found) = first_break(&Keys { rec }, peers)? {
+    if let Some(found) = first_break(&Keys { alloc, rec }, peers)? {
         return Ok(broken(Clause::Keys, found));
     }
     if let Some(found) = first_break(&Order { rec }, peers)? {

@@ -12,6 +12,7 @@ mod keys;
 mod order;
 mod prefix;
 mod reading;
+mod receipts;
 mod script_part;
 mod verdict;
 mod whole;

@@ -5,16 +5,19 @@ ghost use Rattle.b1_model.specs.declared.commands.Command.TheVariants.{Recv};
 ghost use Rattle.b1_model.specs.Names.{calls_of};
 ghost use Rattle.b1_model.specs.Script.{KeepsScript, IsCallOf, is_receipt, ends_await as awaits};
 ghost use Rattle.b1_judge.specs.Frame.{IsCallOrEnd};
+ghost use Rattle.b1_judge.specs.Behind.{behind};
 
 use crate::commands::{has_places, is_of_kind, is_resolved};
 use crate::frame::Part;
 use crate::reading::{peer_calls, peer_commands};
+use crate::receipts::Receipts;
 use b1_model::{Answer, Call, Command, CommandLists, Reason, Record};
-use std::alloc::AllocError;
+use std::alloc::{AllocError, Global};
 
 /// Each peer's calls are its commands with the references resolved, and after them receipts alone.
 #[derive(Drop)]
 pub(crate) struct Commands<'a> {
+    pub alloc: Global,
     pub lists: &'a CommandLists,
     pub rec: &'a Record,
 }
@@ -27,10 +30,16 @@ impl<'a> Part for Commands<'a> {
     ghost keeps = { λ x. KeepsScript x.lists.now x.rec.now };
 
     fn first_of(&self, peer: u32) -> Result<Option<u64>, AllocError> {
-        for call in 0..=peer_calls(self.rec, peer).len() {
-            if !keeps_script(self.lists, self.rec, peer, call) {
+        let calls = peer_calls(self.rec, peer);
+        let mut receipts = Receipts::start(self.alloc, calls);
+        for call in 0..calls.len() {
+            if !keeps_script(self.lists, self.rec, peer, call, &receipts) {
                 return Ok(Some(call as u64));
             }
+            receipts.pass()?;
+        }
+        if !keeps_script(self.lists, self.rec, peer, calls.len(), &receipts) {
+            return Ok(Some(calls.len() as u64));
         }
         Ok(None)
     }
@@ -39,13 +48,20 @@ impl<'a> Part for Commands<'a> {
 }
 
 /// Whether a call, or the end of a peer's calls, keeps the part.
-fn keeps_script(lists: &CommandLists, rec: &Record, peer: u32, call: usize) -> bool
-    requires { call ≤ length (calls_of rec.now peer) }
+fn keeps_script(
+    lists: &CommandLists,
+    rec: &Record,
+    peer: u32,
+    call: usize,
+    before: &Receipts<'_>,
+) -> bool
+    requires call { call ≤ length (calls_of rec.now peer) }
+    requires before { before.now ≡ record { calls = calls_of rec.now peer; count = call } }
     ensures { IsTrue result ↔ KeepsScript lists.now rec.now peer call }
 {
     let calls = peer_calls(rec, peer);
     match (peer_commands(lists, peer).get(call), calls.get(call)) {
-        (Some(command), Some(made)) => is_call_of(command, &calls[..call], made),
+        (Some(command), Some(made)) => is_call_of(command, before, made),
         (Some(_), None) => false,
         (None, Some(made)) => is_further_receipt(made),
         (None, None) => true,
@@ -53,8 +69,8 @@ fn keeps_script(lists: &CommandLists, rec: &Record, peer: u32, call: usize) -> b
 }
 
 /// Whether a call is that of a command which begins after some calls.
-fn is_call_of(command: &Command, before: &[Call], made: &Call) -> bool
-    ensures { IsTrue result ↔ IsCallOf command.now before.now made.now }
+fn is_call_of(command: &Command, before: &Receipts<'_>, made: &Call) -> bool
+    ensures { IsTrue result ↔ IsCallOf command.now (behind before.now) made.now }
 {
     if let Command::Await = command {
         return matches!(made.command, Command::Recv) && ends_await(&made.answer);
