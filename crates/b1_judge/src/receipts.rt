@@ -127,10 +127,10 @@ fn read_data<'a>(answer: &'a Answer) -> Option<Data<'a>>
 }
 
 /// A slot of a data receipt, or what stands for none.
-fn handle_in(data: Option<&Data<'_>>, slot: usize) -> u64
-    ensures { result ≡ handle_in slot (option_copied data.entry) }
+fn handle_in(found: Option<&Data<'_>>, slot: usize) -> u64
+    ensures { result ≡ handle_in slot (option_copied found.entry) }
 {
-    match data {
+    match found {
         Some(data) => match data.handles.get(slot) {
             Some(handle) => *handle,
             None => INVALID,
