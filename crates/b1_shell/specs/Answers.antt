@@ -1,5 +1,5 @@
 -- What a call of the program says of its input.
-use Rattle.std.specs.Prelude.{◌≡◌, ℕ, ◌≤◌, ◌<◌, List, Option, drop, length}
+use Rattle.std.specs.Prelude.{◌≡◌, ◌⊎◌, ℕ, ◌≤◌, ◌<◌, List, Option, drop, length}
 use Rattle.b1_model.specs.declared.limits.TheConstants.{MOST_CHECKED}
 use Rattle.b1_errs.specs.declared.Cause.{Cause}
 use Rattle.b1_io.specs.Streams.{Took, TookSuch}
@@ -16,6 +16,7 @@ use Rattle.b1_shell.specs.declared.forms.Form.{Form}
 use Rattle.b1_shell.specs.declared.forms.Form.TheVariants.{Play, Asm, Dump, Check}
 use Rattle.b1_shell.specs.Plays.{IsReport, IsStallReport}
 use Rattle.b1_shell.specs.Faults.{IsFault}
+use Rattle.b1_shell.specs.Forms.{most_input}
 use Rattle.b1_shell.specs.Texts.{bad_line, legal_line, broken_line}
 
 -- ---- play
@@ -131,3 +132,25 @@ TookText old new P = (text : List ℕ) × P text × Took old new text
 -- a prefix of a text of this kind was taken, and not all of it
 abbrev pub TookPart : Option (List ℕ) → Option (List ℕ) → (List ℕ → Type 0) → Type 0
 TookPart old new P = (text : List ℕ) × P text × TookSuch old new text (λ n. n < length text)
+
+-- ---- which inputs are accepted
+
+-- the input is what the form asks for: a script, the text of one, or a script with a report of as many peers
+abbrev pub IsAsked : Form → List ℕ → Type 0
+IsAsked Play input = (script : Script) × IsWhole input script
+IsAsked Asm input = (script : Script) × IsText input script
+IsAsked Dump input = (script : Script) × IsWhole input script
+IsAsked Check input = (script : Script) × (outcome : Record) × HasReport input script outcome
+
+-- the input is what the form asks for, and no longer than it may be
+pub record IsAccepted (form : Form) (input : List ℕ) : Type 0 where
+  pub few : length input ≤ most_input form
+  pub asked : IsAsked form input
+
+-- the statuses for an accepted input where no read and no write fails: what was asked for, a stall, a report that isn't
+-- legal, or want of memory
+abbrev pub IsAnswer : Form → ℕ → Type 0
+IsAnswer Play status = (status ≡ 0) ⊎ ((status ≡ 3) ⊎ (status ≡ 6))
+IsAnswer Asm status = (status ≡ 0) ⊎ (status ≡ 6)
+IsAnswer Dump status = (status ≡ 0) ⊎ (status ≡ 6)
+IsAnswer Check status = (status ≡ 0) ⊎ ((status ≡ 7) ⊎ (status ≡ 6))

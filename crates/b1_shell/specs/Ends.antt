@@ -2,9 +2,9 @@
 use Rattle.std.specs.Prelude.{◌≡◌, ◌≤◌, ◌<◌, ◌⊎◌, ℕ, List, [], Option, Some, String, map, length, string_bytes, IfSome}
 use Rattle.b1_io.specs.Streams.{Took, TookSuch}
 use Rattle.b1_shell.specs.declared.forms.Form.{Form}
-use Rattle.b1_shell.specs.Forms.{AsksFor, AsksNothing, most_input}
+use Rattle.b1_shell.specs.Forms.{Asks, AsksFor, AsksNothing, most_input}
 use Rattle.b1_shell.specs.Texts.{usage_line}
-use Rattle.b1_shell.specs.Answers.{IsDone, IsFaulty, HasStalled, IsBroken, IsSaid, TookText, TookPart}
+use Rattle.b1_shell.specs.Answers.{IsAccepted, IsAnswer, IsDone, IsFaulty, HasStalled, IsBroken, IsSaid, TookText, TookPart}
 
 -- the words as bytes
 abbrev pub spelled : {A : Type 0} → List (String A) → List (List ℕ)
@@ -35,3 +35,7 @@ pub record ReadsToEnd (words : List (List ℕ)) (held left : Option (List ℕ)) 
   pub bad : status ≡ 2 → AsksFor words (λ form. IfSome held (λ input. length input ≤ most_input form → left ≡ Some []))
   pub stalled : status ≡ 3 → IfSome held (λ _. left ≡ Some [])
   pub broken : status ≡ 7 → IfSome held (λ _. left ≡ Some [])
+
+-- with words of a form, and an input that it accepts, the status is one of the form's
+abbrev pub Completes : List (List ℕ) → Option (List ℕ) → ℕ → Type 0
+Completes words held status = (form : Form) → Asks words form → IfSome held (λ input. IsAccepted form input → IsAnswer form status)

@@ -11,7 +11,7 @@ use Rattle.b1_script.specs.Spelling.{IsWhole}
 use Rattle.b1_shell.specs.declared.Said.{Said}
 use Rattle.b1_shell.specs.declared.Said.TheVariants.{Done, Bad, Stalled}
 use Rattle.b1_shell.specs.declared.forms.Form.TheVariants.{Play}
-use Rattle.b1_shell.specs.Answers.{IsFaulty, TookText, TookPart}
+use Rattle.b1_shell.specs.Answers.{IsAccepted, IsAnswer, IsFaulty, TookText, TookPart}
 use Rattle.b1_shell.specs.Texts.{stalled_line}
 
 -- ---- texts
@@ -66,3 +66,7 @@ pub record TellsSoak (number : ℕ) (old new : Option (List ℕ)) (status : ℕ)
   pub done : status ≡ 0 → TookText old new (IsSoak number)
   pub part : status ≡ 5 → TookPart old new (IsSoak number)
   pub only : (status ≡ 0) ⊎ ((status ≡ 5) ⊎ (status ≡ 6))
+
+-- `run` of an accepted script is done, or stalls, or memory is wanting
+abbrev pub RunCompletes : Option (List ℕ) → ℕ → Type 0
+RunCompletes held status = IfSome held (λ input. IsAccepted Play input → IsAnswer Play status)

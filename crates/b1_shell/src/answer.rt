@@ -1,7 +1,8 @@
 // What is said of an input, before anything is written.
-ghost use Rattle.std.specs.Prelude.{◌≤◌, length, IfOk};
+ghost use Rattle.std.specs.Prelude.{◌≢◌, ◌≤◌, length, IfOk};
 ghost use Rattle.b1_script.specs.Spelling.{HasSpelling};
-ghost use Rattle.b1_shell.specs.Answers.{SaysOf, Says};
+ghost use Rattle.b1_shell.specs.Answers.{IsAsked, SaysOf, Says};
+ghost use Rattle.b1_shell.specs.declared.Said.TheVariants.{Bad};
 ghost use Rattle.b1_shell.specs.declared.forms.Form.TheVariants.{Play};
 ghost use Rattle.b1_shell.specs.Forms as forms;
 
@@ -24,7 +25,8 @@ use std::alloc::{AllocError, Global};
 /// What is said of a script: the report of what it comes to, or where it stalls.
 fn answer_script(alloc: Global, script: &Script) -> Result<(Said, Vec<u8>), AllocError>
     requires { HasSpelling script.now }
-    ensures { IfOk result (λ r. SaysOf script.now r.0 r.1.items) }
+    ensures says { IfOk result (λ r. SaysOf script.now r.0 r.1.items) }
+    ensures accepted { IfOk result (λ r. r.0 ≢ Bad) }
 {
     every_reached_state_is_sound();
     what_is_played_is_scripted();
@@ -41,7 +43,8 @@ fn answer_script(alloc: Global, script: &Script) -> Result<(Said, Vec<u8>), Allo
 
 /// What is said of an input that is to be played. An error is want of memory.
 fn answer_play(alloc: Global, bytes: &[u8]) -> Result<(Said, Vec<u8>), AllocError>
-    ensures { IfOk result (λ r. Says Play bytes.now r.0 r.1.items) }
+    ensures says { IfOk result (λ r. Says Play bytes.now r.0 r.1.items) }
+    ensures accepted { IfOk result (λ r. IsAsked Play bytes.now → r.0 ≢ Bad) }
 {
     match read_whole(alloc, bytes) {
         Ok(script) => answer_script(alloc, &script),
@@ -53,7 +56,8 @@ fn answer_play(alloc: Global, bytes: &[u8]) -> Result<(Said, Vec<u8>), AllocErro
 /// What is said of an input. An error is want of memory.
 pub fn answer(alloc: Global, form: Form, bytes: &[u8]) -> Result<(Said, Vec<u8>), AllocError>
     requires { length bytes.now ≤ forms.most_input form }
-    ensures { IfOk result (λ r. Says form bytes.now r.0 r.1.items) }
+    ensures says { IfOk result (λ r. Says form bytes.now r.0 r.1.items) }
+    ensures accepted { IfOk result (λ r. IsAsked form bytes.now → r.0 ≢ Bad) }
 {
     match form {
         Form::Play => answer_play(alloc, bytes),

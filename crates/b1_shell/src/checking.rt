@@ -1,9 +1,10 @@
 // What is said of a script with its report.
-ghost use Rattle.std.specs.Prelude.{◌≤◌, drop, length, IfOk};
+ghost use Rattle.std.specs.Prelude.{◌≢◌, ◌≤◌, drop, length, IfOk};
 ghost use Rattle.b1_report.specs.Parsing as report;
 ghost use Rattle.b1_script.specs.Spelling.{IsScript};
 ghost use Rattle.b1_shell.specs.declared.forms.Form.TheVariants.{Check};
-ghost use Rattle.b1_shell.specs.Answers.{Says};
+ghost use Rattle.b1_shell.specs.declared.Said.TheVariants.{Bad};
+ghost use Rattle.b1_shell.specs.Answers.{IsAsked, Says};
 
 use crate::Said;
 use crate::lines::{bad_line, broken_line, legal_line};
@@ -17,7 +18,8 @@ use std::alloc::{AllocError, Global};
 /// What is said of a script with its report. An error is want of memory.
 pub fn answer_check(alloc: Global, bytes: &[u8]) -> Result<(Said, Vec<u8>), AllocError>
     requires { length bytes.now ≤ MOST_CHECKED }
-    ensures { IfOk result (λ r. Says Check bytes.now r.0 r.1.items) }
+    ensures says { IfOk result (λ r. Says Check bytes.now r.0 r.1.items) }
+    ensures accepted { IfOk result (λ r. IsAsked Check bytes.now → r.0 ≢ Bad) }
 {
     match read(alloc, bytes) {
         Ok((script, end)) => answer_report(alloc, bytes, &script, end),
@@ -35,7 +37,8 @@ fn answer_report(
 ) -> Result<(Said, Vec<u8>), AllocError>
     requires few { length bytes.now ≤ MOST_CHECKED }
     requires script { IsScript bytes.now script.now end }
-    ensures { IfOk result (λ r. Says Check bytes.now r.0 r.1.items) }
+    ensures says { IfOk result (λ r. Says Check bytes.now r.0 r.1.items) }
+    ensures accepted { IfOk result (λ r. IsAsked Check bytes.now → r.0 ≢ Bad) }
 {
     match parse(alloc, &bytes[end..], script.opening.peers.len() as u32) {
         Ok(outcome) => answer_record(alloc, bytes, script, end, &outcome),
@@ -56,7 +59,8 @@ fn answer_record(
     requires script { IsScript bytes.now script.now end }
     requires report { report.IsReport (length script.now.opening.peers)
         (drop end bytes.now) outcome.now }
-    ensures { IfOk result (λ r. Says Check bytes.now r.0 r.1.items) }
+    ensures says { IfOk result (λ r. Says Check bytes.now r.0 r.1.items) }
+    ensures accepted { IfOk result (λ r. r.0 ≢ Bad) }
 {
     let _ = bytes;
     match judge(alloc, script, outcome)? {

@@ -12,13 +12,13 @@ mod threaded;
 
 ghost use Rattle.std.specs.Prelude.{◌≡◌, ◌≢◌, ◌<◌, ◌≤◌, ◌⊎◌, ℕ, [], Some, length, IfOk, IfErr, IfSome};
 ghost use Rattle.b1_io.specs.Streams.{Rose, Took, TookSuch};
-ghost use Rattle.b1_shell.specs.Answers.{Says, status};
+ghost use Rattle.b1_shell.specs.Answers.{IsAccepted, Says, status};
 ghost use Rattle.b1_shell.specs.Forms.{AsksNothing, most_input as most};
-ghost use Rattle.b1_shell.specs.Ends.{spelled, TellsUsage, TellsInput, ReadsToEnd};
-ghost use Rattle.b1_shell.specs.Runs.{TellsRun, TellsSoak};
+ghost use Rattle.b1_shell.specs.Ends.{spelled, Completes, TellsUsage, TellsInput, ReadsToEnd};
+ghost use Rattle.b1_shell.specs.Runs.{RunCompletes, TellsRun, TellsSoak};
 ghost use Rattle.b1_shell.specs.Threads as threads;
 ghost use Rattle.b1_shell.specs.declared.threaded.Threaded.TheVariants.{Run, Soak};
-ghost use Rattle.b1_shell.specs.declared.Said.TheVariants.{Done, Stalled, Broken};
+ghost use Rattle.b1_shell.specs.declared.Said.TheVariants.{Bad, Done, Stalled, Broken};
 ghost use Rattle.b1_shell.specs.declared.Unsaid.TheVariants.{Fault, Memory};
 
 use answer::answer;
@@ -74,6 +74,8 @@ fn read_and_answer<S: Source>(
 ) -> Result<(Said, Vec<u8>), Unsaid>
     ensures says { IfOk result (λ r.
         IfSome (S.left source.old) (λ held. Says form held r.0 r.1.items)) }
+    ensures accepted { IfOk result (λ r.
+        IfSome (S.left source.old) (λ held. IsAccepted form held → r.0 ≢ Bad)) }
     ensures end { IfOk result (λ r. IfSome (S.left source.old) (λ held. length held ≤ most form
         → S.left source.new ≡ Some [])) }
     ensures done_end { IfOk result (λ r. r.0 ≡ Done
@@ -132,6 +134,9 @@ fn run<S: Source, K: Sink>(alloc: Global, words: &[String], source: &mut S, sink
     ensures ends { ReadsToEnd (spelled words.now) (S.left source.old) (S.left source.new) result }
     ensures input { TellsInput (spelled words.now) (S.left source.old) (K.taken sink.old)
         (K.taken sink.new) result }
+    ensures complete { (Rose (S.faults source.old) (S.faults source.new) → ⊥)
+        → (Rose (K.faults sink.old) (K.faults sink.new) → ⊥)
+        → Completes (spelled words.now) (S.left source.old) result }
 {
     let Some(form) = form_of(words) else {
         return match write_all(
@@ -182,6 +187,9 @@ pub fn quiet<S: Source, K: Sink>(
     ensures ends { ReadsToEnd (spelled words.now) (S.left source.old) (S.left source.new) result }
     ensures input { TellsInput (spelled words.now) (S.left source.old) (K.taken sink.old)
         (K.taken sink.new) result }
+    ensures complete { (Rose (S.faults source.old) (S.faults source.new) → ⊥)
+        → (Rose (K.faults sink.old) (K.faults sink.new) → ⊥)
+        → Completes (spelled words.now) (S.left source.old) result }
 {
     run(alloc, words, source, sink)
 }
@@ -219,9 +227,16 @@ pub fn top<R: Threads + Wait + Sync, S: Source, K: Sink, G: Gate + Sync>(
     ensures input { threads.AsksNothing (spelled words.now)
         → TellsInput (spelled words.now) (S.left source.old) (K.taken sink.old)
         (K.taken sink.new) result }
+    ensures complete { (Rose (S.faults source.old) (S.faults source.new) → ⊥)
+        → (Rose (K.faults sink.old) (K.faults sink.new) → ⊥)
+        → threads.AsksNothing (spelled words.now)
+        → Completes (spelled words.now) (S.left source.old) result }
     ensures run { threads.Asks (spelled words.now) Run
         → TellsRun (S.left source.old) (S.left source.new) (K.taken sink.old)
         (K.taken sink.new) result }
+    ensures run_complete { (Rose (S.faults source.old) (S.faults source.new) → ⊥)
+        → (Rose (K.faults sink.old) (K.faults sink.new) → ⊥)
+        → threads.Asks (spelled words.now) Run → RunCompletes (S.left source.old) result }
     ensures soak { (n : ℕ) → threads.Asks (spelled words.now) (Soak n)
         → TellsSoak n (K.taken sink.old) (K.taken sink.new) result }
 {
@@ -247,6 +262,9 @@ fn write_run<R: Threads + Wait + Sync, S: Source, K: Sink, G: Gate + Sync>(
     ensures write_fault { result ≡ 5 → Rose (K.faults sink.old) (K.faults sink.new) }
     ensures tells { TellsRun (S.left source.old) (S.left source.new) (K.taken sink.old)
         (K.taken sink.new) result }
+    ensures complete { (Rose (S.faults source.old) (S.faults source.new) → ⊥)
+        → (Rose (K.faults sink.old) (K.faults sink.new) → ⊥)
+        → RunCompletes (S.left source.old) result }
 {
     match read_and_run(rt, alloc, source, gate) {
         Ok((said, text)) => write_said(sink, said, &text),

@@ -3,7 +3,9 @@ ghost use Rattle.std.specs.Prelude.{IfOk, IfErr, IfSome, ◌≡◌, ◌≢◌, �
 ghost use Rattle.b1_io.specs.Streams.{Rose};
 ghost use Rattle.b1_model.specs.declared.limits.TheConstants.{MOST_SCRIPT};
 ghost use Rattle.b1_script.specs.Spelling.{HasSpelling};
-ghost use Rattle.b1_shell.specs.declared.Said.TheVariants.{Broken, Done, Stalled};
+ghost use Rattle.b1_shell.specs.declared.Said.TheVariants.{Bad, Broken, Done, Stalled};
+ghost use Rattle.b1_shell.specs.declared.forms.Form.TheVariants.{Play};
+ghost use Rattle.b1_shell.specs.Answers.{IsAccepted, IsAsked};
 ghost use Rattle.b1_shell.specs.declared.Unsaid.TheVariants.{Fault};
 ghost use Rattle.b1_shell.specs.Runs.{RunSays, RunSaysOf};
 
@@ -30,6 +32,8 @@ pub fn read_and_run<R: Threads + Wait + Sync, S: Source, G: Gate + Sync>(
     gate: &G,
 ) -> Result<(Said, Vec<u8>), Unsaid>
     ensures says { IfOk result (λ r. IfSome (S.left source.old) (λ held. RunSays held r.0 r.1.items)) }
+    ensures accepted { IfOk result (λ r.
+        IfSome (S.left source.old) (λ held. IsAccepted Play held → r.0 ≢ Bad)) }
     ensures unbroken { IfOk result (λ r. r.0 ≢ Broken) }
     ensures end { IfOk result (λ r. IfSome (S.left source.old) (λ held. length held ≤ MOST_SCRIPT
         → S.left source.new ≡ Some [])) }
@@ -56,6 +60,7 @@ fn answer_run<R: Threads + Wait + Sync, G: Gate + Sync>(
     gate: &G,
 ) -> Result<(Said, Vec<u8>), AllocError>
     ensures says { IfOk result (λ r. RunSays bytes.now r.0 r.1.items) }
+    ensures accepted { IfOk result (λ r. IsAsked Play bytes.now → r.0 ≢ Bad) }
     ensures unbroken { IfOk result (λ r. r.0 ≢ Broken) }
 {
     match read_whole(alloc, bytes) {
@@ -74,6 +79,7 @@ fn run_script<R: Threads + Wait + Sync, G: Gate + Sync>(
 ) -> Result<(Said, Vec<u8>), AllocError>
     requires { HasSpelling script.now }
     ensures says { IfOk result (λ r. RunSaysOf script.now r.0 r.1.items) }
+    ensures accepted { IfOk result (λ r. r.0 ≢ Bad) }
     ensures unbroken { IfOk result (λ r. r.0 ≢ Broken) }
 {
     what_is_played_is_spelled();

@@ -1,3 +1,4 @@
+use crate::rows::{CLIENT_SERVER_LOGGER, CLIENT_SERVER_LOGGER_REPORT};
 use b1_edge::OpenGate;
 use b1_io::{MemSink, MemSource};
 use b1_shell::{quiet, top};
@@ -84,5 +85,67 @@ fn no_words(rt: HostRuntime) -> Result<(), Fail> {
         sink.taken(),
         b"usage: bus1sh play|run|asm|dump|check|soak N\n".as_slice()
     );
+    Ok(())
+}
+
+// What the word makes of the bytes on ends that move 64 bytes in a call: the status, and the sink behind it.
+fn call(
+    alloc: Global,
+    word: &str,
+    bytes: &[u8],
+    read_fails: Vec<u64>,
+    write_fails: Vec<u64>,
+) -> Result<(u8, MemSink), AllocError> {
+    let mut words = Vec::new(alloc);
+    words.push(String::from_str(alloc, word)?)?;
+    let mut source = MemSource::make(bytes.to_vec(alloc)?, 64, read_fails);
+    let mut sink = MemSink::make(alloc, 4096, 64, write_fails)?;
+    let status = quiet(alloc, &words, &mut source, &mut sink);
+    Ok((status, sink))
+}
+
+// The script of the client, the server and the logger.
+fn assembled(rt: &HostRuntime, alloc: Global) -> Result<Vec<u8>, Fail> {
+    let text = CLIENT_SERVER_LOGGER.as_bytes();
+    let (status, sink) = call(alloc, "asm", text, Vec::new(alloc), Vec::new(alloc))?;
+    assert_eq!(rt; status, 0);
+    Ok(sink.taken().to_vec(alloc)?)
+}
+
+// Each read fails in turn, the last of which finds the end; where none fails, the report is written.
+#[test]
+fn each_read_fails(rt: HostRuntime) -> Result<(), Fail> {
+    let alloc = rt.alloc();
+    let script = assembled(&rt, alloc)?;
+    let reads = script.len().div_ceil(64) as u64 + 1;
+    for number in 0..reads {
+        let fails = [number].to_vec(alloc)?;
+        let (status, sink) = call(alloc, "play", &script, fails, Vec::new(alloc))?;
+        assert_eq!(rt; status, 4);
+        assert!(rt; sink.taken().is_empty());
+    }
+    let (status, sink) = call(alloc, "play", &script, [reads].to_vec(alloc)?, Vec::new(alloc))?;
+    assert_eq!(rt; status, 0);
+    assert_eq!(rt; sink.taken(), CLIENT_SERVER_LOGGER_REPORT.as_bytes());
+    Ok(())
+}
+
+// Each write fails in turn, and what was taken before it is the begin of the report.
+#[test]
+fn each_write_fails(rt: HostRuntime) -> Result<(), Fail> {
+    let alloc = rt.alloc();
+    let script = assembled(&rt, alloc)?;
+    let report = CLIENT_SERVER_LOGGER_REPORT.as_bytes();
+    let writes = report.len().div_ceil(64);
+    for number in 0..writes {
+        let fails = [number as u64].to_vec(alloc)?;
+        let (status, sink) = call(alloc, "play", &script, Vec::new(alloc), fails)?;
+        assert_eq!(rt; status, 5);
+        assert_eq!(rt; sink.taken(), &report[..number * 64]);
+    }
+    let fails = [writes as u64].to_vec(alloc)?;
+    let (status, sink) = call(alloc, "play", &script, Vec::new(alloc), fails)?;
+    assert_eq!(rt; status, 0);
+    assert_eq!(rt; sink.taken(), report);
     Ok(())
 }

@@ -4,4 +4,6 @@
 #[cfg(test)]
 mod failing;
 #[cfg(test)]
+mod rows;
+#[cfg(test)]
 mod threads;
