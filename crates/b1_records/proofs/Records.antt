@@ -231,7 +231,7 @@ find_holds : {X : Type 0} (p : X → Bool) (xs : List X) (x : X) → find p xs �
 find_holds p [] x e = absurd cc
 find_holds p (y ∷ ys) x e = found_here p (p y) y x (find p ys) refl e (find_holds p ys x)
 
-known_ok : {A : Type 0} (o : Option A) (cause : Cause) (at end : ℕ) (a : A) (end' : ℕ) → known o cause at end ≡ Ok (a, end') → (o ≡ Some a) × (end ≡ end')
+pub known_ok : {A : Type 0} (o : Option A) (cause : Cause) (at end : ℕ) (a : A) (end' : ℕ) → known o cause at end ≡ Ok (a, end') → (o ≡ Some a) × (end ≡ end')
 known_ok {A = A} (Some b) cause at end a end' e = let p = ok_is (b, end) (a, end') e in (ap (λ (q : A × ℕ). Some q.0) p, ap (λ (q : A × ℕ). q.1) p)
 known_ok None cause at end a end' e = absurd cc
 
@@ -282,14 +282,14 @@ none_known kind true n false is can e = (sym (eqb-true n 0 is), can)
 none_known kind false n g is can e = absurd cc
 
 -- of a SEND
-one_known : (small one : Bool) (n : ℕ) (g : Bool) → leb n 1 ≡ small → eqb n 1 ≡ one → cond small (Some one) None ≡ Some g → (flags_of g ≡ n) × CanGoOn kinds.Send g
+pub one_known : (small one : Bool) (n : ℕ) (g : Bool) → leb n 1 ≡ small → eqb n 1 ≡ one → cond small (Some one) None ≡ Some g → (flags_of g ≡ n) × CanGoOn kinds.Send g
 one_known true true n true le is e = (sym (eqb-true n 1 is), refl)
 one_known true true n false le is e = absurd cc
 one_known true false n true le is e = absurd cc
 one_known true false n false le is e = (grind (arith, leb-true n 1 le, is), refl)
 one_known false one n g le is e = absurd cc
 
-flags_known : (kind : Kind) (n : ℕ) (g : Bool) → goes_on_of kind n ≡ Some g → (flags_of g ≡ n) × CanGoOn kind g
+pub flags_known : (kind : Kind) (n : ℕ) (g : Bool) → goes_on_of kind n ≡ Some g → (flags_of g ≡ n) × CanGoOn kind g
 flags_known kinds.Disconnect n g e = none_known kinds.Disconnect (eqb n 0) n g refl refl e
 flags_known kinds.Query n g e = none_known kinds.Query (eqb n 0) n g refl refl e
 flags_known kinds.Reset n g e = none_known kinds.Reset (eqb n 0) n g refl refl e
@@ -300,7 +300,7 @@ flags_known kinds.Send n g e = one_known (leb n 1) (eqb n 1) n g refl refl e
 flags_known kinds.Recv n g e = none_known kinds.Recv (eqb n 0) n g refl refl e
 flags_known kinds.Await n g e = none_known kinds.Await (eqb n 0) n g refl refl e
 
-small_flags : (g : Bool) → Is32 (flags_of g)
+pub small_flags : (g : Bool) → Is32 (flags_of g)
 small_flags true = omega arith
 small_flags false = omega arith
 
@@ -320,7 +320,7 @@ flags_format limit bytes kind fits = record {
 
 -- ---- bodies
 
-pub command_kind : Command → Kind
+unfoldable pub command_kind : Command → Kind
 command_kind Disconnect = kinds.Disconnect
 command_kind Query = kinds.Query
 command_kind (Reset limits) = kinds.Reset
@@ -332,12 +332,12 @@ command_kind (Send send) = kinds.Send
 command_kind Recv = kinds.Recv
 command_kind Await = kinds.Await
 
-pub command_goes_on : Command → Bool
+unfoldable pub command_goes_on : Command → Bool
 command_goes_on (Send send) = send.go_on
 command_goes_on command = false
 
 -- what follows a command's code and flags
-pub body_text : Command → List ℕ
+unfoldable pub body_text : Command → List ℕ
 body_text (Reset limits) = limits_spelling limits
 body_text (Release number) = u64_bytes number
 body_text (Destroy numbers) = list_spelling numbers
@@ -357,7 +357,7 @@ stays kind no_flag true can = absurd cc
 stays kind no_flag false can = refl
 
 -- a command that is made of what one format reads
-mapped_takes : {A : Type 0} (limit : ℕ) (bytes : List ℕ) (read : ℕ → Read A) (text : A → List ℕ) (Fits : A → Type 0) → IsFormat limit bytes read text Fits
+pub mapped_takes : {A : Type 0} (limit : ℕ) (bytes : List ℕ) (read : ℕ → Read A) (text : A → List ℕ) (Fits : A → Type 0) → IsFormat limit bytes read text Fits
     → (make : A → Command) (at : ℕ) (c : Command) (end : ℕ) → at ≤ length bytes → at ≤ limit → (read at >>= λ x. Ok (make x.0, x.1)) ≡ Ok (c, end)
     → (a : A) × (make a ≡ c) × Stands bytes at (text a) end × (end ≤ limit) × Fits a
 mapped_takes {A = A} limit bytes read text Fits format make at c end in_bytes in_limit e =
@@ -375,7 +375,7 @@ plain_takes limit bytes kind d at c end in_bytes in_limit go_on body empty e =
     subst (λ (p : Command × ℕ). Stands bytes at (body_text p.0) p.1 × (p.1 ≤ limit) × IsBody kind go_on p.0) (ok_is (d, at) (c, end) e) (subst (λ (x : List ℕ). Stands bytes at x at) (sym empty) (stands_nothing bytes at in_bytes), in_limit, body)
 
 -- the body's facts, for what was made
-abbrev Took : ℕ → List ℕ → ℕ → ℕ → Kind → Bool → Command → Type 0
+abbrev pub Took : ℕ → List ℕ → ℕ → ℕ → Kind → Bool → Command → Type 0
 Took limit bytes at end kind go_on c = Stands bytes at (body_text c) end × (end ≤ limit) × IsBody kind go_on c
 
 pub body_takes : (limit : ℕ) (bytes : List ℕ) → IsBytes bytes → (kind : Kind) (go_on : Bool) (at : ℕ) (c : Command) (end : ℕ) → at ≤ length bytes → at ≤ limit → CanGoOn kind go_on

@@ -7,7 +7,7 @@ use Rattle.b1_errs.specs.declared.Cause.TheVariants as causes
 use Rattle.b1_errs.specs.declared.NotRead.{NotRead}
 use Rattle.b1_errs.specs.declared.NotRead.TheVariants.{Bad, Memory}
 use Rattle.b1_model.specs.declared.commands.Command.{Command}
-use Rattle.b1_model.specs.declared.commands.Command.TheVariants.{Disconnect, Query, Reset, Release, Destroy, SliceRelease, Send, Recv, Await}
+use Rattle.b1_model.specs.declared.commands.Command.TheVariants.{Disconnect, Query, Reset, Limit, Release, Destroy, SliceRelease, Send, Recv, Await}
 use Rattle.b1_model.specs.declared.commands.SendCmd.{SendCmd}
 use Rattle.b1_model.specs.declared.naming.Limits.{Limits}
 use Rattle.b1_records.specs.declared.kinds.Kind.{Kind}
@@ -178,3 +178,47 @@ command_at limit bytes at = do
 -- the first fault of the record at a place, where there is one
 abbrev pub bad_record : List ℕ → ℕ → Option Fault
 bad_record bytes at = fault_of (command_at (length bytes) bytes at)
+
+-- ---- version 2
+
+-- whether the one flag of a command of this kind is set; none where a bit isn't known
+abbrev pub flag_of : Kind → ℕ → Option Bool
+flag_of kinds.Send flags = if nat_le flags 1 then Some (flags == 1) else None
+flag_of kinds.Reset flags = if nat_le flags 1 then Some (flags == 1) else None
+flag_of kind flags = if flags == 0 then Some false else None
+
+unfoldable pub flag_at : ℕ → List ℕ → Kind → ℕ → Read Bool
+flag_at limit bytes kind at = do
+  flags ← number_at limit bytes at
+  known (flag_of kind flags.0) causes.Flags at flags.1
+
+-- a PEER_RESET with flush, or one without
+unfoldable pub reset_at : ℕ → List ℕ → Bool → ℕ → Read Command
+reset_at limit bytes flush at = do
+  limits ← limits_at limit bytes at
+  Ok (if flush then Reset limits.0 else Limit limits.0, limits.1)
+
+-- what follows a record's code, flags and cookie
+unfoldable pub body2_at : ℕ → List ℕ → Kind → Bool → ℕ → Read Command
+body2_at limit bytes kinds.Reset flag at = reset_at limit bytes flag at
+body2_at limit bytes kinds.Disconnect flag at = body_at limit bytes kinds.Disconnect flag at
+body2_at limit bytes kinds.Query flag at = body_at limit bytes kinds.Query flag at
+body2_at limit bytes kinds.Release flag at = body_at limit bytes kinds.Release flag at
+body2_at limit bytes kinds.Destroy flag at = body_at limit bytes kinds.Destroy flag at
+body2_at limit bytes kinds.SliceRelease flag at = body_at limit bytes kinds.SliceRelease flag at
+body2_at limit bytes kinds.Send flag at = body_at limit bytes kinds.Send flag at
+body2_at limit bytes kinds.Recv flag at = body_at limit bytes kinds.Recv flag at
+body2_at limit bytes kinds.Await flag at = body_at limit bytes kinds.Await flag at
+
+-- a record with its cookie, of which no field passes the limit
+unfoldable pub command2_at : ℕ → List ℕ → ℕ → Read (ℕ × Command)
+command2_at limit bytes at = do
+  kind ← kind_at limit bytes at
+  flag ← flag_at limit bytes kind.0 kind.1
+  cookie ← long_number_at limit bytes flag.1
+  command ← body2_at limit bytes kind.0 flag.0 cookie.1
+  Ok ((cookie.0, command.0), command.1)
+
+-- the first fault of the record with a cookie at a place, where there is one
+abbrev pub bad_record2 : List ℕ → ℕ → Option Fault
+bad_record2 bytes at = fault_of (command2_at (length bytes) bytes at)

@@ -1,5 +1,5 @@
 -- Command records: the one spelling of each command.
-use Rattle.std.specs.Prelude.{◌≡◌, ℕ, ◌+◌, ◌-◌, ◌*◌, ◌/◌, ◌^◌, ◌<◌, ◌≤◌, Bool, if◌then◌else◌, List, [], ◌++◌, length, replicate}
+use Rattle.std.specs.Prelude.{◌≡◌, ℕ, ◌+◌, ◌-◌, ◌*◌, ◌/◌, ◌^◌, ◌<◌, ◌≤◌, Bool, if◌then◌else◌, List, [], ◌++◌, length, replicate, true, false}
 use Rattle.std.specs.List.{flat_map, AllByRecursion}
 use Rattle.b1_model.specs.declared.commands.Command.{Command}
 use Rattle.b1_model.specs.declared.commands.Command.TheVariants.{Disconnect, Query, Reset, Limit, Release, Destroy, SliceRelease, Send, Recv, Await}
@@ -127,3 +127,51 @@ pub record IsRecord (bytes : List ℕ) (at : ℕ) (command : Command) (end : ℕ
   pub limits : IsWithin command
   pub numbers : HasNumbers command
   pub stands : Stands bytes at (spelling command) end
+
+-- ---- version 2
+
+-- the kind of a command: both forms of PEER_RESET are of one
+abbrev pub kind_of_command : Command → Kind
+kind_of_command Disconnect = kinds.Disconnect
+kind_of_command Query = kinds.Query
+kind_of_command (Reset limits) = kinds.Reset
+kind_of_command (Limit limits) = kinds.Reset
+kind_of_command (Release number) = kinds.Release
+kind_of_command (Destroy numbers) = kinds.Destroy
+kind_of_command (SliceRelease offset) = kinds.SliceRelease
+kind_of_command (Send send) = kinds.Send
+kind_of_command Recv = kinds.Recv
+kind_of_command Await = kinds.Await
+
+-- whether a command's one flag is set: a SEND goes on past a refused destination, a PEER_RESET flushes
+abbrev pub has_flag : Command → Bool
+has_flag (Send send) = send.go_on
+has_flag (Reset limits) = true
+has_flag command = false
+
+-- what follows a command's code and flags, and its cookie
+abbrev pub body_spelling : Command → List ℕ
+body_spelling (Reset limits) = limits_spelling limits
+body_spelling (Limit limits) = limits_spelling limits
+body_spelling (Release number) = u64_bytes number
+body_spelling (Destroy numbers) = list_spelling numbers
+body_spelling (SliceRelease offset) = u64_bytes offset
+body_spelling (Send send) = send_spelling send
+body_spelling command = []
+
+-- the bytes of a command with its cookie
+abbrev pub spelling2 : ℕ → Command → List ℕ
+spelling2 cookie command = head (kind_of_command command) (flags_of (has_flag command)) ++ u64_bytes cookie ++ body_spelling command
+
+-- what a record with a cookie can carry: lists of numbers and a payload that aren't too long
+abbrev pub IsWithin2 : Command → Type 0
+IsWithin2 (Destroy numbers) = length numbers ≤ most_numbers
+IsWithin2 (Send send) = IsSendWithin send
+IsWithin2 command = Unit {0}
+
+-- a command and its cookie are spelled in the bytes from a place to an end
+pub record IsRecord2 (bytes : List ℕ) (at cookie : ℕ) (command : Command) (end : ℕ) : Type 0 where
+  pub limits : IsWithin2 command
+  pub numbers : HasNumbers command
+  pub wide : Is64 cookie
+  pub stands : Stands bytes at (spelling2 cookie command) end

@@ -6,5 +6,7 @@ mod kinds;
 mod reading;
 mod writing;
 
-pub use reading::{decode, decode_within, every_place_has_a_record_or_a_fault};
-pub use writing::encode;
+pub use reading::{
+    decode, decode_within, decode2, decode2_within, every_place_has_a_record_or_a_fault,
+};
+pub use writing::{encode, encode2};

@@ -1,10 +1,10 @@
 ghost use Rattle.std.specs.Prelude.{◌≡◌, ◌++◌, ◌≤◌, length, OnOk, OnErr};
 ghost use Rattle.std.specs.List.{flat_map};
 ghost use Rattle.b1_wire.specs.Numbers.{u64_bytes};
-ghost use Rattle.b1_records.specs.Spelling.{head, limits_spelling, list_spelling, counts_spelling, send_spelling, padded, spelling, IsWithin, IsSendWithin, most_numbers};
+ghost use Rattle.b1_records.specs.Spelling.{head, flags_of, kind_of_command, has_flag, limits_spelling, list_spelling, counts_spelling, send_spelling, body_spelling, padded, spelling, spelling2, IsWithin, IsWithin2, IsSendWithin, most_numbers};
 ghost use Rattle.b1_records.specs.Writing.{Extends};
 
-use crate::kinds::{Kind, code_of_kind, flags};
+use crate::kinds::{Kind, code_of_kind, flags, flags_of_command, kind_of};
 use b1_model::{Command, Limits, SendCmd};
 use b1_wire::{put_u32, put_u64};
 use std::alloc::AllocError;
@@ -131,6 +131,58 @@ pub fn encode(command: &Command, out: &mut Vec<u8>) -> Result<(), AllocError>
 {
     let len = out.len();
     let result = put_command(command, out);
+    if result.is_err() {
+        out.truncate(len);
+    }
+    result
+}
+
+/// What follows a record's code, flags and cookie.
+#[tactic(auto, using(crate::proofs::Appended::extends_on))]
+fn put_body(command: &Command, out: &mut Vec<u8>) -> Result<(), AllocError>
+    requires { IsWithin2 command.now }
+    ensures ok { OnOk result (out.new.items ≡ out.old.items ++ body_spelling command.now) }
+    ensures err { OnErr result (Extends out.old.items out.new.items) }
+{
+    match command {
+        Command::Reset { limits } | Command::Limit { limits } => put_limits(limits, out),
+        Command::Release { number } => put_u64(out, *number),
+        Command::Destroy { numbers } => put_list(numbers.as_slice(), out),
+        Command::SliceRelease { offset } => put_u64(out, *offset),
+        Command::Send(send) => put_send(send, out),
+        Command::Disconnect | Command::Query | Command::Recv | Command::Await => Ok(()),
+    }
+}
+
+/// The code and the flags of a command's record that has a cookie.
+fn put_head2(command: &Command, out: &mut Vec<u8>) -> Result<(), AllocError>
+    ensures ok { OnOk result (out.new.items ≡ out.old.items ++ head (kind_of_command command.now)
+        (flags_of (has_flag command.now))) }
+    ensures err { OnErr result (Extends out.old.items out.new.items) }
+{
+    put_head(kind_of(command), flags_of_command(command), out)
+}
+
+#[tactic(auto, using(crate::proofs::Appended::extends_on))]
+fn put_command2(cookie: u64, command: &Command, out: &mut Vec<u8>) -> Result<(), AllocError>
+    requires { IsWithin2 command.now }
+    ensures ok { OnOk result (out.new.items ≡ out.old.items ++ spelling2 cookie command.now) }
+    ensures err { OnErr result (Extends out.old.items out.new.items) }
+{
+    put_head2(command, out)?;
+    put_u64(out, cookie)?;
+    put_body(command, out)
+}
+
+/// Appends a command's record of version 2, with its cookie. An error is want of memory, and leaves the bytes as they
+/// were.
+pub fn encode2(cookie: u64, command: &Command, out: &mut Vec<u8>) -> Result<(), AllocError>
+    requires { IsWithin2 command.now }
+    ensures ok { OnOk result (out.new.items ≡ out.old.items ++ spelling2 cookie command.now) }
+    ensures err { OnErr result (out.new.items ≡ out.old.items) }
+{
+    let len = out.len();
+    let result = put_command2(cookie, command, out);
     if result.is_err() {
         out.truncate(len);
     }

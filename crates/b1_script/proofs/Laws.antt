@@ -214,10 +214,10 @@ answer_found bytes (Err e) fits given = tt
 abbrev read_done : Script × ℕ → Read Script
 read_done x = Ok x
 
-abbrev whole_done : Script → Result Script Fault
+abbrev pub whole_done : Script → Result Script Fault
 whole_done s = Ok s
 
-whole_is : (s t : Script) → whole_done s ≡ whole_done t → s ≡ t
+pub whole_is : (s t : Script) → whole_done s ≡ whole_done t → s ≡ t
 whole_is s t e = cc
 
 at_the_end : (x : Script × ℕ) (n : ℕ) (b : Bool) (s : Script) → eqb x.1 n ≡ b → cond b (whole_done x.0) (Err (x.1, causes.Trailing)) ≡ Ok s → read_done x ≡ Ok (s, n)

@@ -16,7 +16,7 @@ use b1_model::{MOST_SCRIPT, Opening};
 use std::alloc::Global;
 
 /// The place of the script's length in its header.
-const LEN_PLACE: usize = 32;
+pub(crate) const LEN_PLACE: usize = 32;
 
 #[tactic(auto, unfolding(crate::specs::Reading::parts_at))]
 fn parts(
