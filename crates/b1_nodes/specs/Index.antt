@@ -12,6 +12,10 @@ abbrev pub below : ℕ → Option ℕ → Option ℕ
 below bound None = None
 below bound (Some serial) = then_some (nat_lt serial bound) serial
 
+-- how many of the first nodes an index knows
+abbrev pub known_by : Index → ℕ
+known_by index = index.known
+
 -- the index knows some of the first nodes: it has the serial of each of their numbers, and no other number
 pub record IsIndex (index : Index) (nodes : List NodePart) : Type 0 where
   pub few : index.known ≤ length nodes

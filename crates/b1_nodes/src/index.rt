@@ -4,7 +4,7 @@ ghost use Rattle.std.specs.Prelude.{◌≡◌, ◌≢◌, ◌==◌, ◌+◌, ◌
 ghost use Rattle.std.specs.List.{position_or_len};
 ghost use Rattle.b1_model.specs.MachineParts.{NodePart};
 ghost use Rattle.b1_model.specs.MachineTables.{serial_of};
-ghost use Rattle.b1_nodes.specs.Index.{IsIndex};
+ghost use Rattle.b1_nodes.specs.Index.{known_by, IsIndex};
 
 use crate::node::Node;
 use crate::nodes::node_at;
@@ -50,7 +50,7 @@ impl Index {
         requires distinct { AllPairs (λ m n. m.number ≢ n.number) nodes.now }
         requires index { IsIndex self.old nodes.now }
         ensures index { IsIndex self.new nodes.now }
-        ensures known { OnOk result (self.new.known ≡ length nodes.now) }
+        ensures known { OnOk result (known_by self.new ≡ length nodes.now) }
     {
         while (self.known as usize) < nodes.len() {
             self.learn_next(nodes)?;
@@ -61,11 +61,11 @@ impl Index {
     /// Takes in the first node that isn't known yet. An error is want of memory, and leaves all as it was.
     fn learn_next(&mut self, nodes: &[Node]) -> Result<(), AllocError>
         requires few { length nodes.now < 2 ^ 32 }
-        requires next { self.old.known < length nodes.now }
+        requires next { known_by self.old < length nodes.now }
         requires distinct { AllPairs (λ m n. m.number ≢ n.number) nodes.now }
         requires index { IsIndex self.old nodes.now }
         ensures index { IsIndex self.new nodes.now }
-        ensures known { OnOk result (self.new.known ≡ self.old.known + 1) }
+        ensures known { OnOk result (known_by self.new ≡ known_by self.old + 1) }
     {
         let number = node_at(nodes, self.known).number();
         self.serials.insert(number, self.known)?;
