@@ -1,14 +1,14 @@
 ghost use Rattle.std.specs.Prelude.{◌≡◌, ◌≢◌, ◌&&◌, ◌-◌, ◌<◌, ◌≤◌, ◌^◌, [], AllPairs, length, Some, None, IfOk, OnOk, true};
 ghost use Rattle.b1_model.specs.declared.parts.NodeState.TheVariants.{Dying, Destroyed};
 ghost use Rattle.b1_model.specs.Names.{is_own};
-ghost use Rattle.b1_model.specs.MachineParts.{is_live, is_dying, is_destroyed};
+ghost use Rattle.b1_model.specs.MachineParts.{is_live, is_dying};
 ghost use Rattle.b1_model.specs.MachineTables.{count_of, serial_of, with_made, with_node, with_nodes, in_state, uncounted, is_unheld, notice_taken as with_notice_taken};
 ghost use Rattle.b1_nodes.specs.Nodes.{node_in, attach_answer, attached as with_attached, holders as with_reference, AllMade, AreNodes};
 
 use crate::counts::add_rooms;
 use crate::index::Index;
 use crate::node::Node;
-use crate::nodes::{forget_at, lower_at, mark_taken, node_at, push_node, raise_at};
+use crate::nodes::{lower_at, mark_taken, node_at, push_node, raise_at};
 use crate::serials::{destroy_all, doom_all, holders_of};
 use b1_model::{Attach, MOST_PEERS, NodeState, Nums, PeerSet};
 use std::alloc::{AllocError, Global};
@@ -228,15 +228,5 @@ impl NodeTable {
         } }
     {
         destroy_all(&mut self.nodes, serials, stamp);
-    }
-
-    /// Gives up the room of a destroyed node's counts, which are all 0.
-    pub fn forget(&mut self, serial: u32)
-        requires made { serial < length self.old.nodes }
-        requires destroyed { is_destroyed (node_in self.old.nodes serial).state ≡ true }
-        requires unheld { is_unheld (node_in self.old.nodes serial) ≡ true }
-        ensures { self.new ≡ self.old }
-    {
-        forget_at(&mut self.nodes, serial);
     }
 }
