@@ -56,8 +56,8 @@ pub fn syncing_notices(visits: Visits, stamp: u64, place: usize) -> DestroyStage
     DestroyStage::CommittingOwn { visits, stamp }
 }
 
-// Whether a command goes on with a flush.
-fn is_flushing(command: &Command) -> bool
+/// Whether a command goes on with a flush.
+pub fn is_flushing(command: &Command) -> bool
     ensures { result ≡ is_flushing command.now }
 {
     matches!(command, Command::Reset { .. } | Command::Disconnect)

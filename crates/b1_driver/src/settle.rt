@@ -6,6 +6,7 @@ ghost use Rattle.b1_driver.specs.Parts.{settled, settled_turn};
 ghost use Rattle.b1_driver.specs.Stages.{calls_after, doing_of, open_after, open_handles, phase_of, send_phase, turn_of, handles_in, handles_after, is_dropping_after, IsStage, IsAfter, IsOpen, OwesDrop};
 ghost use Rattle.b1_driver.specs.Kept.{ArePlaces};
 
+use crate::destroys::is_flushing;
 use crate::facts::is_await;
 use crate::owing::Owing;
 use crate::places::is_place;
@@ -145,9 +146,10 @@ fn sent_answer(stage: SendStage) -> Option<Answer>
 fn stamped_answer(command: &Command, stamp: u64) -> Answer
     ensures { result ≡ stamped_answer command.now stamp }
 {
-    match command {
-        Command::Reset { .. } | Command::Disconnect => Answer::Reset { stamp: Some(stamp) },
-        _ => Answer::Destroyed { stamp },
+    if is_flushing(command) {
+        Answer::Reset { stamp: Some(stamp) }
+    } else {
+        Answer::Destroyed { stamp }
     }
 }
 
@@ -188,11 +190,11 @@ pub fn all_calls(calls: Vec<Call>, doing: Option<Open>) -> Vec<Call>
     requires { IsOpen (vec_len calls) (vec_capacity calls) doing }
     ensures { (doomed : List ℕ) → result.items ≡ calls.items ++ open_by (doing_of doomed doing) }
 {
+    let Some(last) = doing else {
+        return calls;
+    };
     let mut calls = calls;
-    match doing {
-        Some(last) => add_open(&mut calls, last),
-        None => {}
-    }
+    add_open(&mut calls, last);
     calls
 }
 

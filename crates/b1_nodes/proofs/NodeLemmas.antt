@@ -1,6 +1,6 @@
 -- Nodes by their serials.
 use Rattle.std.proofs.Common.{◌≡◌, ◌≢◌, ◌==◌, ℕ, suc, ◌+◌, ◌<◌, ◌≤◌, Bool, true, false, not, List, [], ◌∷◌, ◌++◌, length, get_or, set, take, None, Some, replicate, refl, ap, sym, subst, ◌∙◌, arith, inl, inr, if◌then◌else◌}
-use Rattle.std.specs.Prelude.{All, filter}
+use Rattle.std.specs.Prelude.{All, AllPairs, filter}
 use Rattle.std.specs.List.{range_with_len}
 use Rattle.std.proofs.Math.Seq.{get_or-append_seam}
 use Rattle.std.proofs.lemmas.List.{length-append, get_or_append_left, get_or_default, get_or-set_same, get_or-set_other, length-set, length-replicate, map-id, append-nil}
@@ -119,13 +119,16 @@ AreNodes-set peers nodes serial x y f number counts within read is are =
     subst (AreNodes peers) (sym (with_node_read nodes serial x y f within read is)) (AreNodes-with_node peers nodes serial f number counts are)
 
 -- the node that a number names
-pub serial_found : (peers : ℕ) (nodes : List NodePart) (serial number : ℕ) → AreNodes peers nodes → serial < length nodes → number ≡ (node_in nodes serial).number → serial_of number nodes ≡ Some serial
-serial_found peers nodes serial number are within is =
+pub distinct_found : (nodes : List NodePart) (serial number : ℕ) → AllPairs (λ m n. m.number ≢ n.number) nodes → serial < length nodes → number ≡ (node_in nodes serial).number → serial_of number nodes ≡ Some serial
+distinct_found nodes serial number distinct within is =
     let first : position_or_len (λ n. n.number == number) nodes ≡ serial =
     position_or_len_is (λ n. n.number == number) nodes serial no_node (omega arith)
-    (λ k lt. ne_eqb (node_in nodes k).number number (λ same. are.distinct k serial no_node lt within (same ∙ is)))
+    (λ k lt. ne_eqb (node_in nodes k).number number (λ same. distinct k serial no_node lt within (same ∙ is)))
     (λ lt. eq-eqb (node_in nodes serial).number number (sym is)) in
     rw (first, lt-ltb serial (length nodes) within) refl
+
+pub serial_found : (peers : ℕ) (nodes : List NodePart) (serial number : ℕ) → AreNodes peers nodes → serial < length nodes → number ≡ (node_in nodes serial).number → serial_of number nodes ≡ Some serial
+serial_found peers nodes serial number are within is = distinct_found nodes serial number are.distinct within is
 
 pub made_unknown : (peers number : ℕ) (nodes : List NodePart) → serial_of number nodes ≡ None → nodes ++ record { number = number; state = Live; counts = replicate peers 0; taken = false } ∷ [] ≡ with_made peers number nodes
 made_unknown peers number nodes unknown = rw (unknown, with_made) refl

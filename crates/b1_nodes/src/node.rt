@@ -109,8 +109,18 @@ impl Node {
         raise_in(&mut self.counts, peer);
     }
 
-    /// Counts `k` fewer references of a peer.
+    /// Counts `k` fewer references of a peer. A destroyed node without references gives up the room of its counts.
     pub fn lower(&mut self, peer: u32, k: u64)
+        requires some { 1 ≤ k }
+        requires enough { k ≤ count_of self.old peer }
+        ensures { self.new ≡ uncounted peer k self.old }
+    {
+        self.lower_count(peer, k);
+        self.forget_zeros();
+    }
+
+    /// Counts `k` fewer references of a peer.
+    fn lower_count(&mut self, peer: u32, k: u64)
         requires some { 1 ≤ k }
         requires enough { k ≤ count_of self.old peer }
         ensures { self.new ≡ uncounted peer k self.old }
@@ -126,8 +136,16 @@ impl Node {
         self.state = NodeState::Dying;
     }
 
-    /// Destroys it with a stamp.
+    /// Destroys it with a stamp. Where it has no references, it gives up the room of its counts.
     pub fn destroy(&mut self, stamp: u64)
+        ensures { self.new ≡ in_state (Destroyed stamp) self.old }
+    {
+        self.end(stamp);
+        self.forget_zeros();
+    }
+
+    /// Destroys it with a stamp.
+    fn end(&mut self, stamp: u64)
         ensures { self.new ≡ in_state (Destroyed stamp) self.old }
     {
         self.state = NodeState::Destroyed { stamp };
@@ -140,8 +158,24 @@ impl Node {
         self.taken = true;
     }
 
+    /// Whether it is destroyed.
+    fn is_ended(&self) -> bool
+        ensures { result ≡ is_destroyed self.now.state }
+    {
+        matches!(self.state, NodeState::Destroyed { .. })
+    }
+
+    /// Gives up the room of the counts, where it is destroyed and they are all 0.
+    fn forget_zeros(&mut self)
+        ensures { self.new ≡ self.old }
+    {
+        if self.is_ended() && self.is_unheld() {
+            self.forget();
+        }
+    }
+
     /// Gives up the room of the counts, which are all 0.
-    pub fn forget(&mut self)
+    fn forget(&mut self)
         requires destroyed { is_destroyed self.old.state ≡ true }
         requires unheld { has_no_count self.old ≡ true }
         ensures { self.new ≡ self.old }

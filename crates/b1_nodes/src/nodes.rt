@@ -1,4 +1,4 @@
-ghost use Rattle.std.specs.Prelude.{◌≡◌, ◌&&◌, ◌+◌, ◌-◌, ◌<◌, ◌≤◌, ◌^◌, ℕ, [], ◌∷◌, ◌++◌, true, false, length, vec_len};
+ghost use Rattle.std.specs.Prelude.{◌≡◌, ◌&&◌, ◌+◌, ◌<◌, ◌≤◌, ◌^◌, ℕ, [], ◌∷◌, ◌++◌, false, length, vec_len};
 ghost use Rattle.std.specs.Vec.{vec_capacity};
 ghost use Rattle.b1_model.specs.MachineParts.{is_live, is_destroyed};
 ghost use Rattle.b1_model.specs.MachineTables.{count_of, counted, uncounted, with_node, is_unheld, notice_taken};
@@ -71,16 +71,4 @@ pub fn mark_taken(nodes: &mut Vec<Node>, serial: u32)
     ensures len { vec_len nodes.new ≡ vec_len nodes.old }
 {
     nodes[serial as usize].take_notice();
-}
-
-/// Gives up the room of a destroyed node's counts, which are all 0.
-pub fn forget_at(nodes: &mut Vec<Node>, serial: u32)
-    requires made { serial < length nodes.old.items }
-    requires destroyed { is_destroyed (node_in nodes.old.items serial).state ≡ true }
-    requires unheld { is_unheld (node_in nodes.old.items serial) ≡ true }
-    ensures nodes { nodes.new.items ≡ nodes.old.items }
-    ensures capacity { vec_capacity nodes.new ≡ vec_capacity nodes.old }
-    ensures len { vec_len nodes.new ≡ vec_len nodes.old }
-{
-    nodes[serial as usize].forget();
 }

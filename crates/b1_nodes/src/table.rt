@@ -1,18 +1,17 @@
 ghost use Rattle.std.specs.Prelude.{◌≡◌, ◌≢◌, ◌&&◌, ◌-◌, ◌<◌, ◌≤◌, ◌^◌, [], AllPairs, length, Some, None, IfOk, OnOk, true};
 ghost use Rattle.b1_model.specs.declared.parts.NodeState.TheVariants.{Dying, Destroyed};
 ghost use Rattle.b1_model.specs.Names.{is_own};
-ghost use Rattle.b1_model.specs.MachineParts.{is_live, is_dying, is_destroyed};
+ghost use Rattle.b1_model.specs.MachineParts.{is_live, is_dying};
 ghost use Rattle.b1_model.specs.MachineTables.{count_of, serial_of, with_made, with_node, with_nodes, in_state, uncounted, is_unheld, notice_taken as with_notice_taken};
 ghost use Rattle.b1_nodes.specs.Nodes.{node_in, attach_answer, attached as with_attached, holders as with_reference, AllMade, AreNodes};
 
 use crate::counts::add_rooms;
-use crate::index::{add_to, find_in, reserve_in};
+use crate::index::Index;
 use crate::node::Node;
-use crate::nodes::{forget_at, lower_at, mark_taken, node_at, push_node, raise_at};
+use crate::nodes::{lower_at, mark_taken, node_at, push_node, raise_at};
 use crate::serials::{destroy_all, doom_all, holders_of};
 use b1_model::{Attach, MOST_PEERS, NodeState, Nums, PeerSet};
 use std::alloc::{AllocError, Global};
-use std::collections::HashMap;
 use std::marker::Model;
 
 /// A peer's own nodes, by their serials: a node's place in the order in which they were made, from 0.
@@ -21,7 +20,7 @@ pub struct NodeTable {
     owner: u32,
     peers: u32,
     nodes: Vec<Node>,
-    index: HashMap<u64, u32>,
+    index: Index,
     late: PeerSet,
     rooms: Vec<Nums>,
     alloc: Global,
@@ -31,7 +30,6 @@ impl Model for NodeTable {
     ghost use Rattle.b1_model.specs.declared.limits.TheConstants.{MOST_PEERS};
     ghost use Rattle.std.specs.Prelude.{◌≡◌, ◌+◌, ◌<◌, ◌≤◌, ◌^◌, All, length, replicate, vec_len};
     ghost use Rattle.std.specs.Vec.{vec_capacity};
-    ghost use Rattle.std.specs.HashMap.{spare as index_spare};
     ghost use Rattle.b1_nodes.specs.Nodes.{Nodes, AreNodes};
     ghost use Rattle.b1_nodes.specs.Index.{IsIndex};
 
@@ -52,7 +50,6 @@ impl Model for NodeTable {
       rooms : All (λ r. r ≡ replicate t.peers 0) t.rooms.items;
       capacity : vec_len t.nodes + vec_len t.rooms ≤ vec_capacity t.nodes;
       index : IsIndex t.index t.nodes.items;
-      places : vec_len t.rooms ≤ index_spare t.index;
     } };
 }
 
@@ -68,21 +65,22 @@ impl NodeTable {
             owner,
             peers,
             nodes: Vec::new(alloc),
-            index: HashMap::new(alloc),
+            index: Index::new(alloc),
             late: PeerSet::new(),
             rooms: Vec::new(alloc),
             alloc,
         })
     }
 
-    /// Makes room for `n` more nodes. An error is want of memory, and leaves every node.
+    /// Makes room for `n` more nodes. An error is want of memory, and leaves every node. Each node that was made since the
+    /// last call is taken into the index, in a time of log n.
     pub fn reserve(&mut self, n: usize) -> Result<(), AllocError>
         ensures kept { self.new ≡ record self.old { spare = self.new.spare } }
         ensures enough { OnOk result (n ≤ self.new.spare) }
         ensures spare { self.old.spare ≤ self.new.spare }
     {
+        self.index.learn(&self.nodes)?;
         self.nodes.reserve(n)?;
-        reserve_in(&mut self.index, n)?;
         add_rooms(&mut self.rooms, self.alloc, self.peers, n)
     }
 
@@ -104,7 +102,6 @@ impl NodeTable {
         let Some(room) = self.rooms.pop() else {
             unreachable!()
         };
-        add_to(&mut self.index, number, serial);
         push_node(
             &mut self.nodes,
             Node::new(number, self.peers, room.into_vec()),
@@ -130,12 +127,12 @@ impl NodeTable {
         node_at(&self.nodes, serial).number()
     }
 
-    /// The serial of the node with an own number; `None` where there is none. Takes the time of one look-up in a hash table,
-    /// however many nodes there are.
+    /// The serial of the node with an own number; `None` where there is none. It takes a time of log n for n nodes, and
+    /// where no node that was made before the last `reserve` has the number, it goes through those made since.
     pub fn find(&self, number: u64) -> Option<u32>
         ensures { result ≡ serial_of number self.now.nodes }
     {
-        find_in(&self.index, number)
+        self.index.find(&self.nodes, number)
     }
 
     /// A node's life.
@@ -231,15 +228,5 @@ impl NodeTable {
         } }
     {
         destroy_all(&mut self.nodes, serials, stamp);
-    }
-
-    /// Gives up the room of a destroyed node's counts, which are all 0.
-    pub fn forget(&mut self, serial: u32)
-        requires made { serial < length self.old.nodes }
-        requires destroyed { is_destroyed (node_in self.old.nodes serial).state ≡ true }
-        requires unheld { is_unheld (node_in self.old.nodes serial) ≡ true }
-        ensures { self.new ≡ self.old }
-    {
-        forget_at(&mut self.nodes, serial);
     }
 }

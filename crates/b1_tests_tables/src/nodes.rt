@@ -13,5 +13,9 @@ fn numbers_and_serials(rt: HostRuntime) -> Result<(), Fail> {
     nodes.take_notice(0);
     assert!(rt; nodes.notice_taken(0));
     assert_eq!(rt; nodes.len(), 2);
+    nodes.reserve(1)?;
+    assert_eq!(rt; nodes.find(8), Some(0));
+    assert_eq!(rt; nodes.find(4), Some(1));
+    assert_eq!(rt; nodes.find(12), None);
     Ok(())
 }

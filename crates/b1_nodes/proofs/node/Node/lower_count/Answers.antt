@@ -1,7 +1,7 @@
 use Rattle.std.proofs.Common.{ℕ, ◌-◌, ◌∙◌, arith}
 use Rattle.std.proofs.lemmas.List.{length-set}
 use Rattle.b1_nodes.proofs.CountLemmas.{seen-count, seen-set, count_within}
-use Rattle.b1_nodes.proofs.node.Node.lower.Goals as goal
+use Rattle.b1_nodes.proofs.node.Node.lower_count.Goals as goal
 
 pub lower_in-requires-clause-within : goal.lower_in-requires-clause-within
 lower_in-requires-clause-within c =
