@@ -11,6 +11,6 @@ mod wires;
 mod writing;
 
 pub use reading::{every_input_is_a_script_or_has_a_fault, read, read_whole};
-pub use resolving::{resolve, resolve_after, resolve_handle, resolve_offset};
+pub use resolving::{resolve, resolve_after};
 pub use script::{Script, Turns};
 pub use writing::write;
