@@ -1,8 +1,9 @@
-ghost use Rattle.std.specs.Prelude.{◌≡◌, length, IfOk};
+ghost use Rattle.std.specs.Prelude.{◌≡◌, length, AllPairs, IfOk};
 ghost use Rattle.std.specs.Option.{option_copied};
 ghost use Rattle.b1_model.specs.Opening.{IsOpening};
 ghost use Rattle.b1_model.specs.Ledger.{order, message, slots, doomed_at, is_late};
 ghost use Rattle.b1_judge_facts.specs.Facts.{Rises, doomed};
+ghost use Rattle.b1_judge_facts.specs.Orders.{IsNotAfter};
 ghost use Rattle.b1_judge_facts.specs.Steps.{slots_for};
 
 use crate::gather::{Gathering, slots};
@@ -91,7 +92,8 @@ impl<'a> Facts<'a> {
 
     /// The sends and destructions in the bus order.
     pub fn order(&self) -> &[Stamp]
-        ensures { result.now ≡ order self.now.rec }
+        ensures order { result.now ≡ order self.now.rec }
+        ensures sorted { AllPairs IsNotAfter result.now }
     {
         self.order.as_slice()
     }
