@@ -1,6 +1,6 @@
 -- What a search along the places of a stamped call, and along the bus order, tells.
-use Rattle.std.specs.Prelude.{◌≡◌, refl, ℕ, ◌<◌, ◌≤◌, ◌⊎◌, ◌↔◌, Bool, true, false, not, ◌&&◌, ◌||◌, ◌==◌, ◌+◌, List, length, get_or, AllPairs, slice_get, find, Option, None, Some, IsTrue}
-use Rattle.std.specs.List.{AllWithin}
+use Rattle.std.specs.Prelude.{◌≡◌, refl, ℕ, ◌<◌, ◌≤◌, ◌⊎◌, ◌↔◌, Bool, true, false, not, ◌&&◌, ◌||◌, ◌==◌, ◌+◌, List, length, get_or, AllPairs, slice_get, find, Option, None, Some, is_some, IsTrue, if◌then◌else◌, zero, suc, [], ◌∷◌}
+use Rattle.std.specs.List.{AllWithin, list_any}
 use Rattle.std.specs.List.Sorted.{IsPartitionedBy}
 use Rattle.std.specs.Borrow.{Bor}
 use Rattle.std.specs.Option.{option_copied, option_flatten}
@@ -13,13 +13,14 @@ use Rattle.b1_model.specs.declared.records.Record.{Record}
 use Rattle.b1_model.specs.declared.records.Stamp.{Stamp}
 use Rattle.b1_model.specs.declared.answers.Answer.{Answer}
 use Rattle.b1_model.specs.declared.records.Call.{Call}
-use Rattle.b1_model.specs.Names.{Node, calls_of}
-use Rattle.b1_model.specs.Ledger.{Message, message, to_at, Destruction, destructions_of, node_at, doomed_at, is_before, is_below, stamp_of, order}
-use Rattle.b1_model.specs.Legal.{last_key, is_above, is_message_in, is_message, is_notice_of, is_notice, is_candidate, IsLeast, IsNextReceipt, KeepsPrefix, HasNoNext}
+use Rattle.b1_model.specs.Names.{Node, calls_of, epoch_at}
+use Rattle.b1_model.specs.Ledger.{Message, message, table, line_number, is_accepted, is_node_of, is_entry, is_late, to_at, Destruction, destructions_of, node_at, doomed_at, is_before, is_below, stamp_of, order}
+use Rattle.b1_model.specs.Legal.{last_key, is_above, is_open_to, is_message_in, is_message, is_notice_of, is_notice, is_candidate, IsLeast, IsNextReceipt, KeepsPrefix, HasNoNext}
 use Rattle.b1_ledger.proofs.Sequences.{and_true, and_of, or_true, or_left, or_right, bool_cases}
 use Rattle.b1_judge_facts.specs.Facts.{Gathered, Place, nodes_in, doomed}
 use Rattle.b1_judge_facts.specs.Orders.{IsNotAfter}
-use Rattle.b1_judge.specs.Candidates.{key_at, is_under, is_passed, is_beyond, HasCandidate, HasCandidateOf, HasMessageOf, HasNoticeOf, IsAlong}
+use Rattle.b1_judge_facts.specs.Epochs.{is_of_epoch, has_epoch, goes_to, is_about, IsBeforeEpoch}
+use Rattle.b1_judge.specs.Candidates.{key_at, is_under, is_passed, is_beyond, HasCandidate, HasCandidateOf, HasMessageOf, HasNoticeOf, HasNoneBefore, IsAlong}
 use Rattle.b1_judge.proofs.OrderLemmas.{in_bus_order}
 
 and_false : (b : Bool) → (b && false) ≡ false
@@ -119,9 +120,10 @@ searchable stamps key up i j d le few passes =
     ]
 
 -- the stamped calls that are passed have no entries that may be received next
-pub none_before : (at : Place) (limit : Option Key) (stamps : List Stamp) (n : ℕ) → AllWithin (λ s. is_passed s (last_key at.rec at.peer at.call) ≡ true) stamps 0 n → (i : ℕ) (s : Stamp) → i < n → slice_get stamps i ≡ Some s → ¬ HasCandidateOf at s limit
-none_before at limit stamps n passed i s l read =
-    none_passed at s limit (ap (λ x. is_passed x (last_key at.rec at.peer at.call)) (sym (get_or_from_slice_get stamps i s s read)) ∙ passed i s (omega arith) l)
+pub none_before : (at : Place) (stamps : List Stamp) (n : ℕ) (o : Option Key) → o ≡ last_key at.rec at.peer at.call → AllWithin (λ s. is_passed s o ≡ true) stamps 0 n → HasNoneBefore at stamps n
+none_before at stamps n o last passed i s l read =
+    let key : is_passed s o ≡ true = ap (λ x. is_passed x o) (sym (get_or_from_slice_get stamps i s s read)) ∙ passed i s (omega arith) l in
+    none_passed at s None (ap (is_passed s) (sym last) ∙ key)
 
 -- nor have those from one on that is beyond the limit
 pub none_behind : (at : Place) (limit : Option Key) (stamps : List Stamp) (n : ℕ) (d : Stamp) → AllPairs IsNotAfter stamps → is_beyond (get_or stamps n d) limit ≡ true → (i : ℕ) (s : Stamp) → n ≤ i → slice_get stamps i ≡ Some s → ¬ HasCandidateOf at s limit
@@ -179,6 +181,60 @@ module _ (at : Place) (from : Gathered) (s : Stamp) (limit : Option Key) (along 
       let f : length (doomed at.wires at.rec s.stamp s.origin) ≡ length nodes = ap length (sym e) in
       found_none (λ i. is_notice at.wires at.rec at.peer at.call (key_at s i)) (λ i. is_under (key_at s i) limit) n end (length nodes) none few under
       (λ i l. no_notice_past at.wires at.rec at.peer at.call s i (omega (arith, l, f))) h.0 h.1 h.2
+
+-- ---- where the peer holds no foreign nodes
+
+any_at : {A : Type 0} (f : A → Bool) (xs : List A) (i : ℕ) (x : A) → slice_get xs i ≡ Some x → f x ≡ true → list_any f xs ≡ true
+any_at f [] i x e h = cc e
+any_at f (y ∷ ys) zero x e h = or_left (f y) (list_any f ys) (ap f (same_Some y x e) ∙ h)
+any_at f (y ∷ ys) (suc i) x e h = or_right (f y) (list_any f ys) (any_at f ys i x e h)
+
+-- a node at a place of a list is among its nodes
+among : (p epoch : ℕ) (nodes : List (Option Node)) (i : ℕ) (n : Option Node) → option_flatten (slice_get nodes i) ≡ n → is_of_epoch p epoch n ≡ true → has_epoch p epoch nodes ≡ true
+among p epoch nodes i n e h = go (slice_get nodes i) refl
+  where
+    go : (o : Option (Option Node)) → slice_get nodes i ≡ o → has_epoch p epoch nodes ≡ true
+    go None f = cc (sym (ap option_flatten f) ∙ e, h)
+    go (Some x) f = any_at (is_of_epoch p epoch) nodes i x f (ap (is_of_epoch p epoch) (sym (ap option_flatten f) ∙ e) ∙ h)
+
+module _ (ws : List Wire) (r : Record) (p k : ℕ) (none : (table ws r p k).lines ≡ []) where
+  open_node : (key : Key) (n : Option Node) → is_node_of p n ≡ true → is_open_to ws r p k key n ≡ true → is_of_epoch p (epoch_at r p k) n ≡ true
+  open_node key None e f = cc e
+  open_node key (Some x) e f = and_of (x.owner == p) (x.epoch == epoch_at r p k) e (and_true (x.epoch == epoch_at r p k) (not (is_late ws r x key)) f).0
+
+  message_node : (key : Key) (o : Option Message) → is_message_in ws r p k key o ≡ true → has_epoch p (epoch_at r p k) (goes_to o) ≡ true
+  message_node key None e = cc e
+  message_node key (Some m) e =
+      let both = and_true (is_entry p key.index m) (is_open_to ws r p k key (to_at m key.index)) e in
+      let own = and_true (is_accepted (slice_get m.places key.index)) (is_node_of p (to_at m key.index)) both.0 in
+      among p (epoch_at r p k) m.to key.index (to_at m key.index) refl (open_node key (to_at m key.index) own.1 both.1)
+
+  own_node : (n : Option Node) → is_notice_of ws r p k n ≡ true → is_of_epoch p (epoch_at r p k) n ≡ true
+  own_node None e = cc e
+  own_node (Some x) e = go (x.owner == p) e
+    where
+      not_held : is_some (line_number x (table ws r p k).lines) ≡ false
+      not_held = ap (λ ls. is_some (line_number x ls)) none
+
+      go : (b : Bool) → (if b then x.epoch == epoch_at r p k else is_some (line_number x (table ws r p k).lines)) ≡ true → (b && (x.epoch == epoch_at r p k)) ≡ true
+      go true f = f
+      go false f = cc (not_held, f)
+
+  notice_node : (i : ℕ) (o : Option Destruction) → is_notice_of ws r p k (node_at i o) ≡ true → has_epoch p (epoch_at r p k) (nodes_in o) ≡ true
+  notice_node i None e = cc e
+  notice_node i (Some d) e = among p (epoch_at r p k) d.nodes i (node_at i (Some d)) refl (own_node (node_at i (Some d)) e)
+
+  about_epoch : (s : Stamp) (i : ℕ) → is_candidate ws r p k (key_at s i) ≡ true → is_about ws r p (epoch_at r p k) s ≡ true
+  about_epoch s i e =
+      elim (or_true (is_message ws r p k (key_at s i)) (is_notice ws r p k (key_at s i)) e) [
+        | inl m ↦ or_left (has_epoch p (epoch_at r p k) (goes_to (message ws r s.stamp s.origin))) (has_epoch p (epoch_at r p k) (doomed ws r s.stamp s.origin)) (message_node (key_at s i) (message ws r s.stamp s.origin) (and_true (is_above (key_at s i) (last_key r p k)) (is_message_in ws r p k (key_at s i) (message ws r s.stamp s.origin)) m).1)
+        | inr n ↦ or_right (has_epoch p (epoch_at r p k) (goes_to (message ws r s.stamp s.origin))) (has_epoch p (epoch_at r p k) (doomed ws r s.stamp s.origin)) (notice_node i (find (λ d. d.stamp == s.stamp) (destructions_of ws r s.origin)) (and_true (is_above (key_at s i) (last_key r p k)) (is_notice_of ws r p k (doomed_at ws r (key_at s i))) n).1)
+      ]
+
+-- the stamped calls that neither go to a node of the peer's epoch nor destroy one have no entries that may be received next
+pub none_named : (at : Place) (from : Gathered) (p epoch n : ℕ) → IsAlong at from → (table at.wires at.rec at.peer at.call).lines ≡ [] → p ≡ at.peer → epoch ≡ epoch_at at.rec at.peer at.call → IsBeforeEpoch from.wires from.rec p epoch n → HasNoneBefore at (order from.rec) n
+none_named at from p epoch n along none own now before i s l read h =
+    cc (about_epoch at.wires at.rec at.peer at.call none s h.0 h.1, ap (λ e. is_about at.wires at.rec at.peer e s) (sym now) ∙ ap (λ q. is_about at.wires at.rec q epoch s) (sym own) ∙ ap (λ ws. is_about ws at.rec p epoch s) along.wires ∙ ap (λ r. is_about from.wires r p epoch s) along.rec ∙ before i s l read)
 
 -- an entry has the stamp of a call of its origin
 abbrev pub EntriesCome : Type 0

@@ -2,12 +2,12 @@
 
 ghost use Rattle.std.specs.Prelude.{◌≡◌, ℕ, ◌<◌, ◌≤◌, true, false, ◌&&◌, ◌==◌, ◌↔◌, Some, IsTrue, length, slice_get, AllPairs};
 ghost use Rattle.std.specs.List.{AllWithin};
-ghost use Rattle.b1_model.specs.Ledger.{message as message_with, is_before, is_accepted};
+ghost use Rattle.b1_model.specs.Ledger.{message as message_with, is_before, is_accepted, order};
 ghost use Rattle.b1_model.specs.Legal.{is_above, is_message, is_message_in, is_notice, is_notice_of};
 ghost use Rattle.b1_judge_facts.specs.Walks.{at};
 ghost use Rattle.b1_judge_facts.specs.Facts.{doomed};
 ghost use Rattle.b1_judge_facts.specs.Orders.{IsNotAfter};
-ghost use Rattle.b1_judge.specs.Candidates.{key_at, is_under, is_passed, is_beyond, HasCandidate, HasCandidateOf, HasMessageOf, HasNoticeOf, IsAlong};
+ghost use Rattle.b1_judge.specs.Candidates.{key_at, is_under, is_passed, is_beyond, HasCandidate, HasCandidateOf, HasMessageOf, HasNoticeOf, HasNoneBefore, IsAlong};
 
 use b1_judge_facts::{Facts, Message, NodeId, Walk};
 use b1_ledger::entries_come_from_calls;
@@ -20,7 +20,7 @@ pub(crate) fn has_candidate<'a>(facts: &Facts<'a>, walk: &Walk<'a>, limit: Optio
 {
     entries_come_from_calls();
     let stamps = facts.order();
-    for place in first_place(stamps, walk.last_key())..stamps.len() {
+    for place in first_place(facts, walk, stamps)..stamps.len() {
         let stamp = &stamps[place];
         if is_beyond(stamp, limit) {
             return false;
@@ -32,14 +32,38 @@ pub(crate) fn has_candidate<'a>(facts: &Facts<'a>, walk: &Walk<'a>, limit: Optio
     false
 }
 
-/// How many stamped calls come before the call of a key; none where there is no key. Takes a time of log n.
-fn first_place(stamps: &[Stamp], last: Option<Key>) -> usize
-    requires { AllPairs IsNotAfter stamps.now }
-    ensures { AllWithin (λ s. is_passed s last ≡ true) stamps.now 0 result }
+/// How many stamped calls stand in the bus order before the first that may have an entry to be received next. Takes a
+/// time of log n.
+fn first_place<'a>(facts: &Facts<'a>, walk: &Walk<'a>, stamps: &[Stamp]) -> usize
+    requires along { IsAlong walk.now facts.now }
+    requires order { stamps.now ≡ order facts.now.rec }
+    requires sorted { AllPairs IsNotAfter stamps.now }
+    ensures { HasNoneBefore walk.now stamps.now result }
 {
-    match last {
-        Some(key) => stamps.partition_point(|s| is_before_key(s, key)),
-        None => 0,
+    match walk.last_key() {
+        Some(key) => passed_calls(stamps, key),
+        None => earlier_calls(facts, walk),
+    }
+}
+
+/// How many stamped calls come before the call of a key. Takes a time of log n.
+fn passed_calls(stamps: &[Stamp], key: Key) -> usize
+    requires { AllPairs IsNotAfter stamps.now }
+    ensures { AllWithin (λ s. is_passed s (Some key) ≡ true) stamps.now 0 result }
+{
+    stamps.partition_point(|stamp| is_before_key(stamp, key))
+}
+
+/// How many stamped calls come before the first that goes to a node of the peer's epoch or destroys one, where the peer
+/// holds no foreign nodes; 0 where it does. Takes a time of log n.
+fn earlier_calls<'a>(facts: &Facts<'a>, walk: &Walk<'a>) -> usize
+    requires { IsAlong walk.now facts.now }
+    ensures { HasNoneBefore walk.now (order facts.now.rec) result }
+{
+    if walk.holds_none() {
+        facts.before_epoch(walk.peer(), walk.epoch())
+    } else {
+        0
     }
 }
 

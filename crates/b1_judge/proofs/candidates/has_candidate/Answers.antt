@@ -1,14 +1,10 @@
 -- The stamped calls of the bus order, from the first that isn't passed to the first that is beyond the limit.
-use Rattle.std.proofs.Common.{◌≡◌, true, sym, subst, ◌∙◌}
-use Rattle.std.specs.List.{AllWithin}
-use Rattle.b1_judge.specs.Candidates.{is_passed}
-use Rattle.b1_judge.proofs.CandidateLemmas.{stamp_next, none_before, none_behind, none_past, none_in_all, none_at_all}
+use Rattle.std.proofs.Common.{refl, sym, ◌∙◌}
+use Rattle.b1_judge.proofs.CandidateLemmas.{stamp_next, none_behind, none_past, none_in_all, none_at_all}
 use Rattle.b1_judge.proofs.candidates.has_candidate.Goals as goal
 
 pub loop-place-init : goal.loop-place-init
-loop-place-init c =
-    none_before c.args.walk.now c.args.limit c.order-stamps.result.now c.first_place-place.result
-    (subst (λ o. AllWithin (λ s. is_passed s o ≡ true) c.order-stamps.result.now 0 c.first_place-place.result) c.last_key.ensures c.first_place-place.ensures)
+loop-place-init c i s l read h = c.first_place-place.ensures i s l read (h.0, h.1, refl)
 
 pub returns-then-is_beyond : goal.returns-then-is_beyond
 returns-then-is_beyond c = (
