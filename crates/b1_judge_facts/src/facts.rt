@@ -20,7 +20,8 @@ use std::alloc::{AllocError, Global};
 use std::collections::BTreeMap;
 use std::marker::Model;
 
-/// What a record's sends and destructions named: the bus order, the messages, and the nodes that are destroyed.
+/// What a record's sends and destructions named: the bus order, the messages, the nodes that are destroyed, and the first
+/// call about each epoch.
 ///
 /// It takes memory in proportion to the record.
 #[derive(Drop)]
@@ -54,7 +55,7 @@ impl<'a> Model for Facts<'a> {
 }
 
 impl<'a> Facts<'a> {
-    /// Gathers them in one pass over the bus order. An error is want of memory.
+    /// Gathers them in two passes over the bus order. An error is want of memory.
     pub fn gather(
         alloc: Global,
         opening: &'a Opening,
