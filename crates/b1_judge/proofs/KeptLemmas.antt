@@ -1,5 +1,5 @@
 -- What the tests of stamps tell of a call.
-use Rattle.std.specs.Prelude.{◌≡◌, refl, ℕ, zero, suc, ◌+◌, ◌<◌, ◌%◌, ◌↔◌, ◌⊎◌, Bool, true, false, not, if◌then◌else◌, List, [], ◌∷◌, take, length, get_or, slice_get, Option, None, Some, ◌==◌, IsTrue}
+use Rattle.std.specs.Prelude.{◌≡◌, refl, ℕ, ◌+◌, ◌<◌, ◌%◌, ◌↔◌, ◌⊎◌, Bool, true, false, not, if◌then◌else◌, List, [], ◌∷◌, take, length, get_or, slice_get, Option, None, Some, ◌==◌, IsTrue}
 use Rattle.std.proofs.Common.{arith, inl, inr, sym, ◌∙◌, ap, subst}
 use Rattle.std.proofs.lemmas.Option.{same_Some, slice_get_within, slice_get_read}
 use Rattle.std.proofs.lemmas.Bool.Decides.{Decides-eqb}

@@ -1,5 +1,5 @@
 -- The entries that a peer may receive next, below a key.
-use Rattle.std.specs.Prelude.{◌≡◌, ℕ, Bool, true, false, Option, None, Some}
+use Rattle.std.specs.Prelude.{◌≡◌, ℕ, ◌<◌, Bool, true, false, List, slice_get, Option, None, Some}
 use Rattle.b1_model.specs.declared.naming.Key.{Key}
 use Rattle.b1_model.specs.declared.records.Stamp.{Stamp}
 use Rattle.b1_model.specs.Ledger.{is_before, is_below}
@@ -30,6 +30,10 @@ HasNoticeOf at s limit = (i : ℕ) × (is_notice at.wires at.rec at.peer at.call
 -- an entry of this stamped call, under the limit, may be received next
 abbrev pub HasCandidateOf : Place → Stamp → Option Key → Type 0
 HasCandidateOf at s limit = (i : ℕ) × (is_candidate at.wires at.rec at.peer at.call (key_at s i) ≡ true) × (is_under (key_at s i) limit ≡ true)
+
+-- none of the first n stamped calls has an entry that may be received next
+abbrev pub HasNoneBefore : Place → List Stamp → ℕ → Type 0
+HasNoneBefore at stamps n = (i : ℕ) (s : Stamp) → i < n → slice_get stamps i ≡ Some s → ¬ HasCandidateOf at s None
 
 -- a stamped call is before that of a key, if there is one
 abbrev pub is_passed : Stamp → Option Key → Bool

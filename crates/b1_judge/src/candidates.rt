@@ -1,11 +1,13 @@
 //! Whether something may be received before a key.
 
-ghost use Rattle.std.specs.Prelude.{◌≡◌, ◌<◌, ◌&&◌, ◌↔◌, not, Some, IsTrue, length, slice_get};
-ghost use Rattle.b1_model.specs.Ledger.{message as message_with, is_before, is_accepted};
+ghost use Rattle.std.specs.Prelude.{◌≡◌, ℕ, ◌<◌, ◌≤◌, true, false, ◌&&◌, ◌==◌, ◌↔◌, Some, IsTrue, length, slice_get, AllPairs};
+ghost use Rattle.std.specs.List.{AllWithin};
+ghost use Rattle.b1_model.specs.Ledger.{message as message_with, is_before, is_accepted, order};
 ghost use Rattle.b1_model.specs.Legal.{is_above, is_message, is_message_in, is_notice, is_notice_of};
 ghost use Rattle.b1_judge_facts.specs.Walks.{at};
 ghost use Rattle.b1_judge_facts.specs.Facts.{doomed};
-ghost use Rattle.b1_judge.specs.Candidates.{key_at, is_under, is_passed, is_beyond, HasCandidate, HasCandidateOf, HasMessageOf, HasNoticeOf, IsAlong};
+ghost use Rattle.b1_judge_facts.specs.Orders.{IsNotAfter};
+ghost use Rattle.b1_judge.specs.Candidates.{key_at, is_under, is_passed, is_beyond, HasCandidate, HasCandidateOf, HasMessageOf, HasNoticeOf, HasNoneBefore, IsAlong};
 
 use b1_judge_facts::{Facts, Message, NodeId, Walk};
 use b1_ledger::entries_come_from_calls;
@@ -18,7 +20,11 @@ pub(crate) fn has_candidate<'a>(facts: &Facts<'a>, walk: &Walk<'a>, limit: Optio
 {
     entries_come_from_calls();
     let stamps = facts.order();
-    for stamp in stamps {
+    for place in first_place(facts, walk, stamps)..stamps.len() {
+        let stamp = &stamps[place];
+        if is_beyond(stamp, limit) {
+            return false;
+        }
         if has_candidate_of(facts, walk, stamp, limit) {
             return true;
         }
@@ -26,19 +32,56 @@ pub(crate) fn has_candidate<'a>(facts: &Facts<'a>, walk: &Walk<'a>, limit: Optio
     false
 }
 
-/// Whether a stamped call is neither before the call of one key nor after that of another.
-fn is_between(stamp: &Stamp, last: Option<Key>, limit: Option<Key>) -> bool
-    ensures { result ≡ (not (is_passed stamp.now last) && not (is_beyond stamp.now limit)) }
+/// How many stamped calls stand in the bus order before the first that may have an entry to be received next. Takes a
+/// time of log n.
+fn first_place<'a>(facts: &Facts<'a>, walk: &Walk<'a>, stamps: &[Stamp]) -> usize
+    requires along { IsAlong walk.now facts.now }
+    requires order { stamps.now ≡ order facts.now.rec }
+    requires sorted { AllPairs IsNotAfter stamps.now }
+    ensures { HasNoneBefore walk.now stamps.now result }
 {
-    let passed = match last {
-        Some(key) => is_before_call(stamp.stamp, stamp.origin, key.stamp, key.origin),
-        None => false,
-    };
-    let beyond = match limit {
+    match walk.last_key() {
+        Some(key) => passed_calls(stamps, key),
+        None => earlier_calls(facts, walk),
+    }
+}
+
+/// How many stamped calls come before the call of a key. Takes a time of log n.
+fn passed_calls(stamps: &[Stamp], key: Key) -> usize
+    requires { AllPairs IsNotAfter stamps.now }
+    ensures { AllWithin (λ s. is_passed s (Some key) ≡ true) stamps.now 0 result }
+{
+    stamps.partition_point(|stamp| is_before_key(stamp, key))
+}
+
+/// How many stamped calls come before the first that goes to a node of the peer's epoch or destroys one, where the peer
+/// holds no foreign nodes; 0 where it does. Takes a time of log n.
+fn earlier_calls<'a>(facts: &Facts<'a>, walk: &Walk<'a>) -> usize
+    requires { IsAlong walk.now facts.now }
+    ensures { HasNoneBefore walk.now (order facts.now.rec) result }
+{
+    if walk.holds_none() {
+        facts.before_epoch(walk.peer(), walk.epoch())
+    } else {
+        0
+    }
+}
+
+/// Whether a stamped call comes before the call of a key.
+fn is_before_key(stamp: &Stamp, key: Key) -> bool
+    ensures { result ≡ is_before stamp.now.stamp stamp.now.origin key.stamp key.origin }
+{
+    is_before_call(stamp.stamp, stamp.origin, key.stamp, key.origin)
+}
+
+/// Whether a stamped call comes behind the call of a key, if there is one.
+fn is_beyond(stamp: &Stamp, limit: Option<Key>) -> bool
+    ensures { result ≡ is_beyond stamp.now limit }
+{
+    match limit {
         Some(key) => is_before_call(key.stamp, key.origin, stamp.stamp, stamp.origin),
         None => false,
-    };
-    !passed && !beyond
+    }
 }
 
 /// Whether a stamp of an origin is before another one in the bus order.
@@ -58,9 +101,6 @@ fn has_candidate_of<'a>(
     requires { IsAlong walk.now facts.now }
     ensures { IsTrue result ↔ HasCandidateOf walk.now stamp.now limit }
 {
-    if !is_between(stamp, walk.last_key(), limit) {
-        return false;
-    }
     has_message_of(facts, walk, stamp, limit) || has_notice_of(facts, walk, stamp, limit)
 }
 
@@ -72,12 +112,44 @@ fn has_message_of<'a>(facts: &Facts<'a>, walk: &Walk<'a>, stamp: &Stamp, limit: 
     let Some(message) = facts.message(stamp.stamp, stamp.origin) else {
         return false;
     };
-    for index in 0..message.to().len() {
+    let (first, end) = places_between(stamp, message.to().len(), walk.last_key(), limit);
+    for index in first..end {
         if is_message_at(facts, walk, message, stamp, index, limit) {
             return true;
         }
     }
     false
+}
+
+/// The first of the places of a stamped call that may be above one key, and the one behind the last that may be under
+/// another.
+fn places_between(
+    stamp: &Stamp,
+    count: usize,
+    last: Option<Key>,
+    limit: Option<Key>,
+) -> (usize, usize)
+    ensures within { result.1 ≤ count }
+    ensures above { (i : ℕ) → i < result.0 → is_above (key_at stamp.now i) last ≡ false }
+    ensures under { (i : ℕ) → result.1 ≤ i → i < count
+        → is_under (key_at stamp.now i) limit ≡ false }
+{
+    let first = match last {
+        Some(key) if is_of_call(stamp, key) => key.index as usize + 1,
+        _ => 0,
+    };
+    let end = match limit {
+        Some(key) if is_of_call(stamp, key) => count.min(key.index as usize),
+        _ => count,
+    };
+    (first, end)
+}
+
+/// Whether a key is of a stamped call.
+fn is_of_call(stamp: &Stamp, key: Key) -> bool
+    ensures { result ≡ ((key.stamp == stamp.now.stamp) && (key.origin == stamp.now.origin)) }
+{
+    key.stamp == stamp.stamp && key.origin == stamp.origin
 }
 
 /// Whether a place of a message may be received next, and its key is under a limit.
@@ -168,7 +240,8 @@ fn has_notice_of<'a>(facts: &Facts<'a>, walk: &Walk<'a>, stamp: &Stamp, limit: O
     ensures { IsTrue result ↔ HasNoticeOf walk.now stamp.now limit }
 {
     let nodes = facts.doomed(stamp.stamp, stamp.origin);
-    for index in 0..nodes.len() {
+    let (first, end) = places_between(stamp, nodes.len(), walk.last_key(), limit);
+    for index in first..end {
         if is_notice_at(walk, nodes, stamp, index, limit) {
             return true;
         }

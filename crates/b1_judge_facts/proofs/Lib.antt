@@ -5,6 +5,7 @@ mod Indexing
 mod Naming
 mod Beside
 mod Keeping
+mod FirstPlaces
 mod Starts
 mod Dooms
 mod Standings

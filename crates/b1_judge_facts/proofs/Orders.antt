@@ -1,5 +1,5 @@
 -- The bus order: what it has, and in which order.
-use Rattle.std.specs.Prelude.{◌≡◌, refl, ℕ, zero, suc, ◌+◌, ◌<◌, ◌≤◌, ◌⊎◌, Bool, true, false, ◌==◌, nat_lt, List, [], ◌∷◌, ◌++◌, length, filter, flat_map, slice_get, Option, Some, None, if◌then◌else◌}
+use Rattle.std.specs.Prelude.{◌≡◌, refl, ℕ, zero, suc, ◌+◌, ◌<◌, ◌≤◌, ◌⊎◌, Bool, true, false, ◌==◌, nat_lt, List, [], ◌∷◌, ◌++◌, length, get_or, AllPairs, filter, flat_map, slice_get, Option, Some, None, if◌then◌else◌}
 use Rattle.std.specs.List.{range_with_len}
 use Rattle.std.proofs.lemmas.List.{append-nil}
 use Rattle.std.proofs.lemmas.List.Elements.{filter-append}
@@ -12,6 +12,7 @@ use Rattle.b1_model.specs.declared.records.Stamp.{Stamp}
 use Rattle.b1_model.specs.Names.{calls_in, calls_of}
 use Rattle.b1_model.specs.Ledger.{is_before, into_order, in_order, stamp_of, stamp_at, stamps_from, peers_of, order}
 use Rattle.b1_model.specs.Legal.{KeepsOrder}
+use Rattle.b1_judge_facts.specs.Orders.{IsNotAfter}
 use Rattle.b1_ledger.proofs.Sequences.{bool_cases}
 use Rattle.b1_ledger.proofs.Bound.{seen_of_stamp}
 
@@ -86,6 +87,20 @@ ordered_into s (t ∷ ts) h = go (below t s) refl (ordered_into s ts h.1)
 pub ordered_in_order : (ss : List Stamp) → Ordered (in_order ss)
 ordered_in_order [] = tt
 ordered_in_order (s ∷ ss) = ordered_into s (in_order ss) (ordered_in_order ss)
+
+pub sorted : (r : Record) → AllPairs IsNotAfter (order r)
+sorted r i j d l few = at (order r) i j l few (ordered_in_order (flat_map (λ p. stamps_from p 0 (calls_of r p)) (peers_of r)))
+  where
+    later : (z : Stamp) (xs : List Stamp) (j : ℕ) → j < length xs → NoneBelow z xs → below (get_or xs j d) z ≡ false
+    later z [] j few h = absurd (omega (arith, few))
+    later z (x ∷ xs) zero few h = h.0
+    later z (x ∷ xs) (suc j) few h = later z xs j (omega (arith, few)) h.1
+
+    at : (xs : List Stamp) (i j : ℕ) → i < j → j < length xs → Ordered xs → below (get_or xs j d) (get_or xs i d) ≡ false
+    at [] i j l few h = absurd (omega (arith, few))
+    at (x ∷ xs) i zero l few h = absurd (omega (arith, l))
+    at (x ∷ xs) zero (suc j) l few h = later x xs j (omega (arith, few)) h.0
+    at (x ∷ xs) (suc i) (suc j) l few h = at xs i j (omega (arith, l)) (omega (arith, few)) h.1
 
 into_front : (s : Stamp) (ts : List Stamp) → NoneBelow s ts → into_order s ts ≡ s ∷ ts
 into_front s [] h = refl

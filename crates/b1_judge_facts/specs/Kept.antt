@@ -1,5 +1,5 @@
 -- What is kept of a record: its messages and destructions by stamp and origin, and the first destruction of each node.
-use Rattle.std.specs.Prelude.{◌≡◌, ℕ, length, Bool, false, ◌&&◌, ◌||◌, ◌==◌, if◌then◌else◌, List, [], Option, None, Some}
+use Rattle.std.specs.Prelude.{◌≡◌, ℕ, Bool, false, ◌&&◌, ◌||◌, ◌==◌, if◌then◌else◌, List, [], Option, None, Some}
 use Rattle.std.specs.Option.{option_or}
 use Rattle.std.specs.BTreeSet.{BTreeSet, contains}
 use Rattle.std.specs.Ordering.{nat_cmp, ordering_then}
@@ -11,11 +11,7 @@ use Rattle.b1_model.specs.declared.records.Record.{Record}
 use Rattle.b1_model.specs.declared.records.Stamp.{Stamp}
 use Rattle.b1_model.specs.Names.{Node}
 use Rattle.b1_model.specs.Ledger.{is_before, Message, order, message, has_node, is_late}
-use Rattle.b1_model.specs.declared.naming.Opening.{Opening}
-use Rattle.b1_model.specs.Opening.{IsOpening}
-use Rattle.b1_judge_facts.specs.declared.standing.Standing.{Standing}
 use Rattle.b1_judge_facts.specs.Facts.{doomed}
-use Rattle.b1_judge_facts.specs.Start.{AreBegun}
 
 -- pairs of numbers, by the first and then by the second
 abbrev pub pair_cmp : ℕ × ℕ → ℕ × ℕ → Ordering
@@ -60,10 +56,3 @@ pub record IsKept (ws : List Wire) (r : Record) (stamps : List Stamp) (messages 
   pub message_is : (stamp q : ℕ) → kept_at messages stamp q ≡ message ws r stamp q
   pub doomed_is : (stamp q : ℕ) → kept_nodes (kept_at destroyed stamp q) ≡ doomed ws r stamp q
   pub late_is : (x : Node) (key : Key) → comes_before (kept_at first x.owner x.serial) key ≡ is_late ws r x key
-
--- all of a record with as many peers as its opening
-pub record IsFacts (o : Opening) (r : Record) (starts : List Standing) (stamps : List Stamp) (messages : BTreeMap (ℕ × ℕ) Message) (destroyed : BTreeMap (ℕ × ℕ) (List (Option Node))) (first : BTreeMap (ℕ × ℕ) (ℕ × ℕ)) : Type 0 where
-  pub opens : IsOpening o
-  pub peers : length r.peers ≡ length o.peers
-  pub starts_are : AreBegun o.wires o.wires (length r.peers) starts
-  pub kept : IsKept o.wires r stamps messages destroyed first

@@ -2,6 +2,8 @@ pub mod Facts
 pub mod Steps
 pub mod Standing
 pub mod Kept
+pub mod Epochs
+pub mod Known
 pub mod Indexes
 pub mod Start
 pub mod Gathering

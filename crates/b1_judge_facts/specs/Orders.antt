@@ -1,10 +1,14 @@
 -- What the bus order of a record has.
-use Rattle.std.specs.Prelude.{◌≡◌, ℕ, ◌<◌, true, ◌==◌, filter, slice_get, Some}
+use Rattle.std.specs.Prelude.{◌≡◌, ℕ, ◌<◌, true, false, ◌==◌, filter, slice_get, Some}
 use Rattle.b1_model.specs.declared.records.Call.{Call}
 use Rattle.b1_model.specs.declared.records.Record.{Record}
 use Rattle.b1_model.specs.declared.records.Stamp.{Stamp}
 use Rattle.b1_model.specs.Names.{calls_of}
 use Rattle.b1_model.specs.Ledger.{stamp_of, is_before, stamps_from, order}
+
+-- the second call doesn't come before the first, by stamp and origin
+abbrev pub IsNotAfter : Stamp → Stamp → Type 0
+IsNotAfter s t = is_before t.stamp t.origin s.stamp s.origin ≡ false
 
 -- each stamped call stands in the order
 abbrev pub HasEachStamp : Record → Type 0

@@ -1,10 +1,13 @@
-ghost use Rattle.std.specs.Prelude.{◌≡◌, length, IfOk};
+ghost use Rattle.std.specs.Prelude.{◌≡◌, length, AllPairs, IfOk};
 ghost use Rattle.std.specs.Option.{option_copied};
 ghost use Rattle.b1_model.specs.Opening.{IsOpening};
 ghost use Rattle.b1_model.specs.Ledger.{order, message, slots, doomed_at, is_late};
+ghost use Rattle.b1_judge_facts.specs.Epochs.{IsBeforeEpoch};
 ghost use Rattle.b1_judge_facts.specs.Facts.{Rises, doomed};
+ghost use Rattle.b1_judge_facts.specs.Orders.{IsNotAfter};
 ghost use Rattle.b1_judge_facts.specs.Steps.{slots_for};
 
+use crate::epochs::{first_places, nodes_at};
 use crate::gather::{Gathering, slots};
 use crate::keep::comes_before;
 use crate::message::Message;
@@ -17,7 +20,8 @@ use std::alloc::{AllocError, Global};
 use std::collections::BTreeMap;
 use std::marker::Model;
 
-/// What a record's sends and destructions named: the bus order, the messages, and the nodes that are destroyed.
+/// What a record's sends and destructions named: the bus order, the messages, the nodes that are destroyed, and the first
+/// call about each epoch.
 ///
 /// It takes memory in proportion to the record.
 #[derive(Drop)]
@@ -33,6 +37,8 @@ pub struct Facts<'a> {
     destroyed: BTreeMap<(u64, u32), Items<Option<NodeId>>>,
     /// The stamp and origin of the first destruction of each node, by owner and serial.
     first: BTreeMap<(u32, u64), (u64, u32)>,
+    /// The place in the bus order of the first call about each epoch, by peer and epoch.
+    places: BTreeMap<(u32, u64), usize>,
 }
 
 impl<'a> Model for Facts<'a> {
@@ -40,16 +46,16 @@ impl<'a> Model for Facts<'a> {
 
     ghost Value = { Gathered };
 
-    ghost use Rattle.b1_judge_facts.specs.Kept.{IsFacts};
+    ghost use Rattle.b1_judge_facts.specs.Known.{IsFacts};
 
     ghost view = { λ f. record { wires = f.opening.now.wires; rec = f.rec.now } };
 
     ghost invariant = { λ f. IsFacts f.opening.now f.rec.now f.starts.items f.order
-        f.messages f.destroyed f.first };
+        f.messages f.destroyed f.first f.places };
 }
 
 impl<'a> Facts<'a> {
-    /// Gathers them in one pass over the bus order. An error is want of memory.
+    /// Gathers them in two passes over the bus order. An error is want of memory.
     pub fn gather(
         alloc: Global,
         opening: &'a Opening,
@@ -71,6 +77,7 @@ impl<'a> Facts<'a> {
             first,
             ..
         } = gathering;
+        let places = first_places(alloc, order.as_slice(), &messages, &destroyed)?;
         Ok(Facts {
             opening,
             rec,
@@ -79,6 +86,7 @@ impl<'a> Facts<'a> {
             messages,
             destroyed,
             first,
+            places,
         })
     }
 
@@ -91,7 +99,8 @@ impl<'a> Facts<'a> {
 
     /// The sends and destructions in the bus order.
     pub fn order(&self) -> &[Stamp]
-        ensures { result.now ≡ order self.now.rec }
+        ensures order { result.now ≡ order self.now.rec }
+        ensures sorted { AllPairs IsNotAfter result.now }
     {
         self.order.as_slice()
     }
@@ -110,14 +119,22 @@ impl<'a> Facts<'a> {
         slots(&self.messages, peer, answer)
     }
 
+    /// How many of the sends and destructions stand in the bus order before the first that goes to a node of a peer's
+    /// epoch or destroys one; all of them where there is none. Takes a time of log n.
+    pub fn before_epoch(&self, peer: u32, epoch: u64) -> usize
+        ensures { IsBeforeEpoch self.now.wires self.now.rec peer epoch result }
+    {
+        match self.places.get(&(peer, epoch)) {
+            Some(place) => *place,
+            None => self.order.as_slice().len(),
+        }
+    }
+
     /// The nodes of the destruction with a stamp of an origin; none where there is no such. Takes a time of log n.
     pub fn doomed(&self, stamp: u64, origin: u32) -> &[Option<NodeId>]
         ensures { result.now ≡ doomed self.now.wires self.now.rec stamp origin }
     {
-        match self.destroyed.get(&(stamp, origin)) {
-            Some(nodes) => nodes.as_slice(),
-            None => &[],
-        }
+        nodes_at(&self.destroyed, stamp, origin)
     }
 
     /// The node of the destroy notice with a key. Takes a time of log n.

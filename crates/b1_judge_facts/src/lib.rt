@@ -5,6 +5,7 @@
 //! definitions of `b1_model` say.
 #![tactic(auto)]
 
+mod epochs;
 mod facts;
 mod gather;
 mod gone;

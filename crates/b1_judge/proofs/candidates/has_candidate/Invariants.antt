@@ -4,5 +4,5 @@ use Rattle.b1_model.specs.declared.records.Stamp.{Stamp}
 use Rattle.b1_judge.specs.Candidates.{HasCandidateOf}
 use Rattle.b1_judge.proofs.candidates.has_candidate.Given as goal
 
-abbrev pub invariant-loop-stamp : goal.invariant-loop-stamp
-invariant-loop-stamp l = (i : ℕ) (s : Stamp) → i < l.stamp-index → slice_get l.stamps i ≡ Some s → ¬ HasCandidateOf l.walk s l.limit
+abbrev pub invariant-loop-place : goal.invariant-loop-place
+invariant-loop-place l = (i : ℕ) (s : Stamp) → i < l.place → slice_get l.stamps i ≡ Some s → ¬ HasCandidateOf l.walk s l.limit

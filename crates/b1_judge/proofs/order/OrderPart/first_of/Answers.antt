@@ -1,5 +1,5 @@
 -- One more call keeps the part, and the greatest stamp is known.
-use Rattle.std.proofs.Common.{rules, ◌≡◌, ℕ, ◌<◌, ◌↔◌, length, subst, sym}
+use Rattle.std.proofs.Common.{rules, ◌≡◌, ℕ, ◌<◌, ◌↔◌, length, subst}
 use borrow.Author.Count.{below_more}
 use Rattle.b1_model.specs.Names.{calls_of}
 use Rattle.b1_model.specs.Legal.{seen_stamp, KeepsOrder}

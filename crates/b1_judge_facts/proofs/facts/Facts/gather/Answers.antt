@@ -1,6 +1,7 @@
 use Rattle.std.specs.Prelude.{length}
 use Rattle.std.proofs.Common.{refl, ◌∙◌}
 use Rattle.b1_judge_facts.proofs.Ends.{started, peer_there, not_past, stamp_there, taken, at_stamp, gathered_all}
+use Rattle.b1_judge_facts.proofs.FirstPlaces.{first_all}
 use Rattle.b1_judge_facts.proofs.facts.Facts.gather.Goals as goal
 
 pub loop-stamp-init : goal.loop-stamp-init
@@ -30,10 +31,14 @@ loop-stamp-preserved c =
     c.loop-stamp-test.true c.loop-stamp.invariant c.in_ok-take.ensures
 
 pub invariant_of-result : goal.invariant_of-result
-invariant_of-result c = record {
-  opens = c.requires.opening;
-  peers = c.requires.peers;
-  starts_are = c.in_ok-starts-2.ensures;
-  kept = gathered_all c.args.opening.now.wires c.args.rec.now c.requires.order c.as_slice-stamp-items.result.now c.in_ok-order.order c.loop-stamp.stamp-index c.loop-stamp.gathering
-      c.as_slice-stamp-items.ensures c.in_ok-order.ensures c.loop-stamp-test.false c.loop-stamp.invariant;
-}
+invariant_of-result c =
+    let kept = gathered_all c.args.opening.now.wires c.args.rec.now c.requires.order c.as_slice-stamp-items.result.now c.in_ok-order.order c.loop-stamp.stamp-index c.loop-stamp.gathering
+    c.as_slice-stamp-items.ensures c.in_ok-order.ensures c.loop-stamp-test.false c.loop-stamp.invariant in
+    record {
+      opens = c.requires.opening;
+      peers = c.requires.peers;
+      starts_are = c.in_ok-starts-2.ensures;
+      kept = kept;
+      places_are = first_all c.args.opening.now.wires c.args.rec.now c.in_ok-order.order c.as_slice.result.now c.loop-stamp.gathering.messages c.loop-stamp.gathering.destroyed c.loop-stamp.gathering.first c.in_ok-places.places
+          kept c.as_slice.ensures c.in_ok-places.ensures;
+    }
