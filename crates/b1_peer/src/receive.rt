@@ -1,11 +1,11 @@
 //! A message arrives at its receiver.
 
 ghost use Rattle.std.specs.Prelude.{◌≡◌, ◌+◌, ◌<◌, ◌≤◌, ◌^◌, All, length, Ok};
-ghost use Rattle.b1_peer_dead.specs.Buffers.{LosesOne};
 ghost use Rattle.b1_model.specs.declared.answers.Receipt.TheVariants as receipts;
 ghost use Rattle.b1_model.specs.MachinePool.{published};
 ghost use Rattle.b1_peer_pool.specs.Content.{SameElsewhere};
 ghost use Rattle.b1_peer_pool.specs.Stored.{IsStored};
+ghost use Rattle.b1_peer_dead.specs.Buffers.{LosesOne};
 ghost use Rattle.b1_peer_carried.specs.Carry.{may_arrive};
 ghost use Rattle.b1_peer.specs.Answers.{IsDelivered};
 ghost use Rattle.b1_peer.specs.Arrivals.{Arrives, CanArrive};

@@ -29,13 +29,13 @@ pub fn make_room<Q: QueueKind, P: PoolKind>(
     ensures enough { OnOk result (Enough nodes records carries
         (length mail.old.queue) mail.new store.new dead.new) }
 {
-    let held = records.checked_add(carries).ok_or(AllocError)?;
-    let singles = held.checked_add(1).ok_or(AllocError)?;
-    let notices = singles.checked_add(nodes).ok_or(AllocError)?;
-    let items = singles.checked_add(mail.len()).ok_or(AllocError)?;
-    mail.reserve(notices)?;
+    let all_records = records.checked_add(carries).ok_or(AllocError)?;
+    let with_message = all_records.checked_add(1).ok_or(AllocError)?;
+    let entries = with_message.checked_add(nodes).ok_or(AllocError)?;
+    let items = with_message.checked_add(mail.len()).ok_or(AllocError)?;
+    mail.reserve(entries)?;
     store.reserve()?;
     dead.reserve(items)?;
-    dead.reserve_singles(held)?;
+    dead.reserve_singles(all_records)?;
     dead.reserve_set(carries)
 }
