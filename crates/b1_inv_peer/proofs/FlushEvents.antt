@@ -52,9 +52,10 @@ pub places_emptied : (queue : Queue) (made : ℕ) → places [] made ≤ places 
 places_emptied [] made = omega arith
 places_emptied (f ∷ rest) made = let further = places_emptied rest made in let here = one_place f rest made in omega (arith, further, here)
 
-pub room_emptied : (queue : Queue) (made : ℕ) (handles : List HandleRecord) (spare items buffers new_items : ℕ) → IsRoom queue made handles spare items buffers → IsRoom [] made [] (spare + length queue) new_items buffers
-room_emptied queue made handles spare items buffers new_items room = record {
+pub room_emptied : (queue : Queue) (made : ℕ) (handles : List HandleRecord) (spare items singles new_items new_singles : ℕ) (sets new_sets : ℕ → ℕ) → IsRoom queue made handles spare items singles sets → IsRoom [] made [] (spare + length queue) new_items new_singles new_sets
+room_emptied queue made handles spare items singles new_items new_singles sets new_sets room = record {
   notices = (let old = room.notices in let all = places_emptied queue made in omega (arith, old, all));
   dead = omega arith;
-  numbers = omega arith;
+  records = omega arith;
+  messages = λ m. omega arith;
 }

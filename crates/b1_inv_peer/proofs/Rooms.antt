@@ -1,5 +1,5 @@
 -- The room that events need, where entries and records come and go.
-use Rattle.std.proofs.Common.{◌≡◌, ◌≢◌, refl, sym, ap, ◌∙◌, ℕ, zero, suc, ◌+◌, ◌-◌, ◌≤◌, ◌<◌, Bool, true, false, cond, not, List, [], ◌∷◌, filter, map, length, Some, None, ◌==◌}
+use Rattle.std.proofs.Common.{◌≡◌, ◌≢◌, refl, sym, ap, ◌∙◌, ℕ, zero, suc, ◌+◌, ◌-◌, ◌≤◌, ◌<◌, Bool, true, false, cond, not, ◌&&◌, List, [], ◌∷◌, filter, map, length, Some, None, ◌==◌}
 use Rattle.std.proofs.lemmas.Bool.{eqb-true}
 use Rattle.std.proofs.lemmas.List.Sums.{sum_by-cons}
 use native.Mathlib.Omega.{arith}
@@ -8,10 +8,10 @@ use Rattle.b1_model.specs.declared.naming.NodeRef.{NodeRef}
 use Rattle.b1_model.specs.declared.parts.Slot.{Slot}
 use Rattle.b1_model.specs.declared.entries.Entry.{Entry}
 use Rattle.b1_model.specs.declared.entries.Entry.TheVariants.{Message, OwnNotice, ForeignNotice, ReleaseNotice}
-use Rattle.b1_model.specs.MachineParts.{HandleRecord, is_data, record_of, is_release_notice}
+use Rattle.b1_model.specs.MachineParts.{HandleRecord, is_data, carried, record_of, is_release_notice}
 use Rattle.b1_model.specs.MachineTables.{put, put_all, without, is_staged_notice, changed, made_dead, noticed as with_notice, expected}
 use Rattle.b1_model.specs.MachineSend.{with_slots, with_stamp}
-use Rattle.b1_inv_peer.specs.PeerOk.{count, is_message, is_notice_of, places, unnoticed, IsRoom}
+use Rattle.b1_inv_peer.specs.PeerOk.{count, is_message, carries, is_notice_of, places, unnoticed, IsRoom}
 use Rattle.b1_inv_peer.specs.Changes.{Removes, LessFlight}
 use Rattle.b1_inv_peer.proofs.Counts.{one, count_put, count_none, count_without_le, count_without_other, sum_moved}
 use Rattle.b1_inv_peer.proofs.RecordLists.{fewer_changed, more_expected, unnoticed_one_more, unnoticed_noticed, unnoticed_expected}
@@ -51,57 +51,70 @@ places_grow queue made (suc more) =
     let same : made + suc more ≡ suc (made + more) = omega arith in
     rw same (let e : places queue (suc (made + more)) ≤ places queue made + suc more = omega (arith, further, one_more) in e)
 
+-- a message carries as many nodes once it is committed
+carries_committed : (m : ℕ) (slots : List Slot) (k new : Key) (e : Entry) → carries m (new, with_slots slots e) ≡ carries m (k, e)
+carries_committed m slots k new (Message o user index serial offset len nodes old hs payload) = refl
+carries_committed m slots k new (OwnNotice serial index) = refl
+carries_committed m slots k new (ForeignNotice node index) = refl
+carries_committed m slots k new (ReleaseNotice serial) = refl
+
 -- ---- one change
 
-module _ (queue : Queue) (made : ℕ) (handles : List HandleRecord) (spare items buffers : ℕ) (room : IsRoom queue made handles spare items buffers) where
+module _ (queue : Queue) (made : ℕ) (handles : List HandleRecord) (spare items singles : ℕ) (sets : ℕ → ℕ) (room : IsRoom queue made handles spare items singles sets) where
   -- records change and none loses its notice
-  pub room_records : (new : List HandleRecord) → length new ≤ length handles → unnoticed new ≤ unnoticed handles → IsRoom queue made new spare items buffers
+  pub room_records : (new : List HandleRecord) → length new ≤ length handles → unnoticed new ≤ unnoticed handles → IsRoom queue made new spare items singles sets
   room_records new fewer free = record {
     notices = (let old = room.notices in omega (arith, old, free));
     dead = (let old = room.dead in omega (arith, old, fewer));
-    numbers = room.numbers;
+    records = (let old = room.records in omega (arith, old, fewer));
+    messages = room.messages;
   }
 
   -- nodes are made, and there is room for them
-  pub room_made : (more : ℕ) → places queue made + unnoticed handles + more ≤ spare → IsRoom queue (made + more) handles spare items buffers
+  pub room_made : (more : ℕ) → places queue made + unnoticed handles + more ≤ spare → IsRoom queue (made + more) handles spare items singles sets
   room_made more enough = record {
     notices = (let grow = places_grow queue made more in omega (arith, grow, enough));
     dead = room.dead;
-    numbers = room.numbers;
+    records = room.records;
+    messages = room.messages;
   }
 
   -- a message comes in
-  pub room_staged : (k : Key) (e : Entry) (nodes : List NodeRef) → is_data e ≡ true → places queue made + unnoticed handles + length nodes + 1 ≤ spare → count is_message queue + length handles + length nodes + 1 ≤ items → count is_message queue + 1 ≤ buffers → IsRoom (put k e queue) made (expected nodes handles) (spare - 1) items buffers
-  room_staged k e nodes is places_enough items_enough buffers_enough = record {
+  pub room_staged : (k : Key) (e : Entry) (nodes : List NodeRef) → is_data e ≡ true → places queue made + unnoticed handles + length nodes + 1 ≤ spare → count is_message queue + length handles + length nodes + 1 ≤ items → length handles + length nodes ≤ singles → ((m : ℕ) → count (carries m) queue + one (length (carried e) == m) ≤ sets m) → IsRoom (put k e queue) made (expected nodes handles) (spare - 1) items singles sets
+  room_staged k e nodes is places_enough items_enough singles_enough sets_enough = record {
     notices = (let le = places_le queue (put k e queue) made (λ s. (let now = count_put (is_notice_of s) k e queue in omega (arith, now))) in let free = unnoticed_expected nodes handles in omega (arith, le, free, places_enough));
     dead = (let now = count_put is_message k e queue in let mine : one (is_data e) ≡ 1 = ap one is in let more = more_expected nodes handles in omega (arith, now, mine, more, items_enough));
-    numbers = (let now = count_put is_message k e queue in let mine : one (is_data e) ≡ 1 = ap one is in omega (arith, now, mine, buffers_enough));
+    records = (let more = more_expected nodes handles in omega (arith, more, singles_enough));
+    messages = λ m. (let now = count_put (carries m) k e queue in let mine : one (carries m (k, e)) ≡ one (length (carried e) == m) = ap (λ b. one (b && (length (carried e) == m))) is in let enough = sets_enough m in omega (arith, now, mine, enough));
   }
 
   -- a message leaves, and may take an item and a buffer with it
-  pub room_message_left : (left : Queue) (f : Key × Entry) (new : List HandleRecord) (me : ℕ) (nodes : List NodeRef) (new_spare new_items new_buffers : ℕ) → Removes queue left f → is_data f.1 ≡ true → LessFlight me nodes handles new → spare ≤ new_spare → items ≤ new_items + 1 → buffers ≤ new_buffers + 1 → IsRoom left made new new_spare new_items new_buffers
-  room_message_left left f new me nodes new_spare new_items new_buffers gone is less spare_le items_le buffers_le = record {
+  pub room_message_left : (left : Queue) (f : Key × Entry) (new : List HandleRecord) (me : ℕ) (nodes : List NodeRef) (new_spare new_items new_singles : ℕ) (new_sets : ℕ → ℕ) → Removes queue left f → is_data f.1 ≡ true → LessFlight me nodes handles new → spare ≤ new_spare → items ≤ new_items + 1 → singles ≤ new_singles → ((m : ℕ) → sets m ≤ new_sets m + one (length (carried f.1) == m)) → IsRoom left made new new_spare new_items new_singles new_sets
+  room_message_left left f new me nodes new_spare new_items new_singles new_sets gone is less spare_le items_le singles_le sets_le = record {
     notices = (let le = places_le queue left made (λ s. (let whole = gone.sums (λ e. one (is_notice_of s e)) in let none : one (is_notice_of s f) ≡ 0 = ap one (notice_of_none s f is) in omega (arith, whole, none))) in let free = less.unnoticed in let old = room.notices in omega (arith, le, free, old, spare_le));
     dead = (let whole = gone.sums (λ e. one (is_message e)) in let mine : one (is_message f) ≡ 1 = ap one is in let fewer = less.fewer in let old = room.dead in omega (arith, whole, mine, fewer, old, items_le));
-    numbers = (let whole = gone.sums (λ e. one (is_message e)) in let mine : one (is_message f) ≡ 1 = ap one is in let old = room.numbers in omega (arith, whole, mine, old, buffers_le));
+    records = (let fewer = less.fewer in let old = room.records in omega (arith, fewer, old, singles_le));
+    messages = λ m. (let whole = gone.sums (λ e. one (carries m e)) in let mine : one (carries m f) ≡ one (length (carried f.1) == m) = ap (λ b. one (b && (length (carried f.1) == m))) is in let old = room.messages m in let le = sets_le m in omega (arith, whole, mine, old, le));
   }
 
   -- a message is committed
-  pub room_committed : (left : Queue) (f : Key × Entry) (new : Key) (slots : List Slot) → Removes queue left f → IsRoom (put new (with_slots slots f.1) left) made handles spare items buffers
+  pub room_committed : (left : Queue) (f : Key × Entry) (new : Key) (slots : List Slot) → Removes queue left f → IsRoom (put new (with_slots slots f.1) left) made handles spare items singles sets
   room_committed left f new slots gone = record {
     notices = (let le = places_le queue (put new (with_slots slots f.1) left) made (λ s. (let whole = gone.sums (λ e. one (is_notice_of s e)) in let now = count_put (is_notice_of s) new (with_slots slots f.1) left in let same = ap one (notice_of_committed s f.0 new f.1 slots) in omega (arith, whole, now, same))) in let old = room.notices in omega (arith, le, old));
     dead = (let whole = gone.sums (λ e. one (is_message e)) in let now = count_put is_message new (with_slots slots f.1) left in let same = ap one (data_committed slots f.1) in let old = room.dead in omega (arith, whole, now, same, old));
-    numbers = (let whole = gone.sums (λ e. one (is_message e)) in let now = count_put is_message new (with_slots slots f.1) left in let same = ap one (data_committed slots f.1) in let old = room.numbers in omega (arith, whole, now, same, old));
+    records = room.records;
+    messages = λ m. (let whole = gone.sums (λ e. one (carries m e)) in let now = count_put (carries m) new (with_slots slots f.1) left in let same = ap one (carries_committed m slots f.0 new f.1) in let old = room.messages m in omega (arith, whole, now, same, old));
   }
 
   -- notices are committed
-  pub room_notices_committed : (origin stamp : ℕ) → IsRoom (put_all (map (with_stamp stamp) (filter (is_staged_notice origin) queue)) (without (is_staged_notice origin) queue)) made handles spare items buffers
+  pub room_notices_committed : (origin stamp : ℕ) → IsRoom (put_all (map (with_stamp stamp) (filter (is_staged_notice origin) queue)) (without (is_staged_notice origin) queue)) made handles spare items singles sets
   room_notices_committed origin stamp =
       let moved = put_all (map (with_stamp stamp) (filter (is_staged_notice origin) queue)) (without (is_staged_notice origin) queue) in
       record {
         notices = (let le = places_le queue moved made (λ s. (let same = sum_moved (λ e. one (is_notice_of s e)) (is_staged_notice origin) (with_stamp stamp) queue (λ f is. ap one (notice_of_stamp s f)) in omega (arith, same))) in let old = room.notices in omega (arith, le, old));
         dead = (let same = sum_moved (λ e. one (is_message e)) (is_staged_notice origin) (with_stamp stamp) queue (λ f is. refl) in let old = room.dead in omega (arith, same, old));
-        numbers = (let same = sum_moved (λ e. one (is_message e)) (is_staged_notice origin) (with_stamp stamp) queue (λ f is. refl) in let old = room.numbers in omega (arith, same, old));
+        records = room.records;
+        messages = λ m. (let same = sum_moved (λ e. one (carries m e)) (is_staged_notice origin) (with_stamp stamp) queue (λ f is. refl) in let old = room.messages m in omega (arith, same, old));
       }
     where
       notice_of_stamp : (s : ℕ) (f : Key × Entry) → is_notice_of s (with_stamp stamp f) ≡ is_notice_of s f
@@ -111,27 +124,30 @@ module _ (queue : Queue) (made : ℕ) (handles : List HandleRecord) (spare items
       notice_of_stamp s (k, ReleaseNotice serial) = refl
 
   -- an own node's notice leaves
-  pub room_notice_left : (left : Queue) (f : Key × Entry) (t new_spare : ℕ) → Removes queue left f → ((s : ℕ) → s ≢ t → is_notice_of s f ≡ false) → spare + 1 ≤ new_spare → IsRoom left made handles new_spare items buffers
+  pub room_notice_left : (left : Queue) (f : Key × Entry) (t new_spare : ℕ) → Removes queue left f → ((s : ℕ) → s ≢ t → is_notice_of s f ≡ false) → spare + 1 ≤ new_spare → IsRoom left made handles new_spare items singles sets
   room_notice_left left f t new_spare gone others spare_le = record {
     notices = (let le = places_one_more queue left t made (λ s apart. (let whole = gone.sums (λ e. one (is_notice_of s e)) in let none : one (is_notice_of s f) ≡ 0 = ap one (others s apart) in omega (arith, whole, none))) in let old = room.notices in omega (arith, le, old, spare_le));
     dead = (let whole = gone.sums (λ e. one (is_message e)) in let old = room.dead in omega (arith, whole, old));
-    numbers = (let whole = gone.sums (λ e. one (is_message e)) in let old = room.numbers in omega (arith, whole, old));
+    records = room.records;
+    messages = λ m. (let whole = gone.sums (λ e. one (carries m e)) in let old = room.messages m in omega (arith, whole, old));
   }
 
   -- a foreign node's notice leaves
-  pub room_foreign_left : (left : Queue) (k : Key) (node : NodeRef) (index new_spare : ℕ) → Removes queue left (k, ForeignNotice node index) → spare + 1 ≤ new_spare → IsRoom left made (changed node made_dead handles) new_spare items buffers
+  pub room_foreign_left : (left : Queue) (k : Key) (node : NodeRef) (index new_spare : ℕ) → Removes queue left (k, ForeignNotice node index) → spare + 1 ≤ new_spare → IsRoom left made (changed node made_dead handles) new_spare items singles sets
   room_foreign_left left k node index new_spare gone spare_le = record {
     notices = (let le = places_le queue left made (λ s. (let whole = gone.sums (λ e. one (is_notice_of s e)) in omega (arith, whole))) in let free = unnoticed_one_more node made_dead handles in let old = room.notices in omega (arith, le, free, old, spare_le));
     dead = (let whole = gone.sums (λ e. one (is_message e)) in let fewer = fewer_changed node made_dead handles in let old = room.dead in omega (arith, whole, fewer, old));
-    numbers = (let whole = gone.sums (λ e. one (is_message e)) in let old = room.numbers in omega (arith, whole, old));
+    records = (let fewer = fewer_changed node made_dead handles in let old = room.records in omega (arith, fewer, old));
+    messages = λ m. (let whole = gone.sums (λ e. one (carries m e)) in let old = room.messages m in omega (arith, whole, old));
   }
 
   -- a release notice leaves, if it is there
-  pub room_released : (t new_spare : ℕ) → (count (is_release_notice t) queue ≡ 0 → spare ≤ new_spare) → (1 ≤ count (is_release_notice t) queue → spare + 1 ≤ new_spare) → IsRoom (without (is_release_notice t) queue) made handles new_spare items buffers
+  pub room_released : (t new_spare : ℕ) → (count (is_release_notice t) queue ≡ 0 → spare ≤ new_spare) → (1 ≤ count (is_release_notice t) queue → spare + 1 ≤ new_spare) → IsRoom (without (is_release_notice t) queue) made handles new_spare items singles sets
   room_released t new_spare none_le some_le = record {
     notices = at (count (is_release_notice t) queue) refl;
     dead = (let le = count_without_le is_message (is_release_notice t) queue in let old = room.dead in omega (arith, le, old));
-    numbers = (let le = count_without_le is_message (is_release_notice t) queue in let old = room.numbers in omega (arith, le, old));
+    records = room.records;
+    messages = λ m. (let le = count_without_le (carries m) (is_release_notice t) queue in let old = room.messages m in omega (arith, le, old));
   }
     where
       other : (s : ℕ) → s ≢ t → (f : Key × Entry) → is_release_notice t f ≡ true → is_notice_of s f ≡ false
@@ -164,11 +180,12 @@ module _ (queue : Queue) (made : ℕ) (handles : List HandleRecord) (spare items
     pub room_for_notice : 1 ≤ spare
     room_for_notice = let less = one_place_less in let old = room.notices in omega (arith, less, old)
 
-    pub room_notice_put : IsRoom (put k e queue) made handles (spare - 1) items buffers
+    pub room_notice_put : IsRoom (put k e queue) made handles (spare - 1) items singles sets
     room_notice_put = record {
       notices = (let less = one_place_less in let old = room.notices in omega (arith, less, old));
       dead = (let now = count_put is_message k e queue in let no_one : one (is_data e) ≡ 0 = ap one is in let old = room.dead in omega (arith, now, no_one, old));
-      numbers = (let now = count_put is_message k e queue in let no_one : one (is_data e) ≡ 0 = ap one is in let old = room.numbers in omega (arith, now, no_one, old));
+      records = room.records;
+      messages = λ m. (let now = count_put (carries m) k e queue in let no_one : one (carries m (k, e)) ≡ 0 = ap (λ b. one (b && (length (carried e) == m))) is in let old = room.messages m in omega (arith, now, no_one, old));
     }
 
   -- a record without a notice gets one
@@ -176,9 +193,10 @@ module _ (queue : Queue) (made : ℕ) (handles : List HandleRecord) (spare items
     pub room_for_foreign : 1 ≤ spare
     room_for_foreign = let less = unnoticed_noticed node handles needs in let old = room.notices in omega (arith, less, old)
 
-    pub room_foreign_put : IsRoom (put k (ForeignNotice node index) queue) made (changed node with_notice handles) (spare - 1) items buffers
+    pub room_foreign_put : IsRoom (put k (ForeignNotice node index) queue) made (changed node with_notice handles) (spare - 1) items singles sets
     room_foreign_put = record {
       notices = (let le = places_le queue (put k (ForeignNotice node index) queue) made (λ s. (let now = count_put (is_notice_of s) k (ForeignNotice node index) queue in omega (arith, now))) in let less = unnoticed_noticed node handles needs in let old = room.notices in omega (arith, le, less, old));
       dead = (let now = count_put is_message k (ForeignNotice node index) queue in let fewer = fewer_changed node with_notice handles in let old = room.dead in omega (arith, now, fewer, old));
-      numbers = (let now = count_put is_message k (ForeignNotice node index) queue in let old = room.numbers in omega (arith, now, old));
+      records = (let fewer = fewer_changed node with_notice handles in let old = room.records in omega (arith, fewer, old));
+      messages = λ m. (let now = count_put (carries m) k (ForeignNotice node index) queue in let old = room.messages m in omega (arith, now, old));
     }

@@ -25,6 +25,10 @@ count test queue = sum_by (λ f. if test f then 1 else 0) queue
 abbrev pub is_message : Key × Entry → Bool
 is_message f = is_data f.1
 
+-- a message that carries so many nodes
+abbrev pub carries : ℕ → Key × Entry → Bool
+carries n f = is_data f.1 && (length (carried f.1) == n)
+
 -- a message whose slice begins at an offset
 abbrev pub begins_at : ℕ → Key × Entry → Bool
 begins_at offset f = is_data f.1 && (offset_of f.1 == offset)
@@ -120,12 +124,13 @@ places queue made = total (place_of queue) made
 abbrev pub unnoticed : List HandleRecord → ℕ
 unnoticed handles = sum_by (λ h. if h.notice then 0 else 1) handles
 
--- places in the queue for the notices of nodes and records, items of the dead list for messages and records, and buffers for the messages' handles
-pub record IsRoom (queue : List (Key × Entry)) (made : ℕ) (handles : List HandleRecord) (spare items buffers : ℕ) : Type 0 where
+-- places in the queue for the notices of nodes and records, items of the dead list for messages and records, a buffer for one reference for each record, and buffers for each message's nodes
+pub record IsRoom (queue : List (Key × Entry)) (made : ℕ) (handles : List HandleRecord) (spare items singles : ℕ) (sets : ℕ → ℕ) : Type 0 where
   pub notices : places queue made + unnoticed handles ≤ spare
   pub dead : count is_message queue + length handles ≤ items
-  pub numbers : count is_message queue ≤ buffers
+  pub records : length handles ≤ singles
+  pub messages : (n : ℕ) → count (carries n) queue ≤ sets n
 
 -- the same of a peer's part
-abbrev pub HasRoom : PeerPart → ℕ → ℕ → ℕ → Type 0
-HasRoom x spare items buffers = IsRoom x.queue (length x.nodes) x.handles spare items buffers
+abbrev pub HasRoom : PeerPart → ℕ → ℕ → ℕ → (ℕ → ℕ) → Type 0
+HasRoom x spare items singles sets = IsRoom x.queue (length x.nodes) x.handles spare items singles sets

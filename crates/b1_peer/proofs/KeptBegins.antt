@@ -109,7 +109,7 @@ pub roomy_kept : (p : Fields) → IsPeer p → (mail : Mail) (nodes : Nodes) →
 roomy_kept p peer mail nodes more =
     rw (more.mail_same, more.nodes_same) (record {
       ok = peer.ok;
-      room = record { notices = (let old = peer.room.notices in let le = more.mail_more in omega (arith, old, le)); dead = peer.room.dead; numbers = peer.room.numbers };
+      room = record { notices = (let old = peer.room.notices in let le = more.mail_more in omega (arith, old, le)); dead = peer.room.dead; records = peer.room.records; messages = peer.room.messages };
       contents = peer.contents;
       stored = peer.stored;
       owner = peer.owner;
@@ -134,7 +134,8 @@ begun_kept p peer mail mid nodes numbers more enough is =
             let free = unnoticed_most p.handles.records in
             omega (arith, most, grown, own, free, notices));
         dead = peer.room.dead;
-        numbers = peer.room.numbers;
+        records = peer.room.records;
+        messages = peer.room.messages;
       };
       contents = peer.contents;
       stored = peer.stored;

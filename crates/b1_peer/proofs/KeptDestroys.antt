@@ -19,6 +19,7 @@ use Rattle.b1_queue.proofs.Entries.{AllPairs-head, AllPairs-tail}
 use Rattle.b1_nodes.specs.Nodes.{Nodes, node_in, AllMade, holders}
 use Rattle.b1_peer_queue.specs.Mail.{Mail}
 use Rattle.b1_nodes.proofs.Doomed.{no_more}
+use Rattle.b1_peer_dead.specs.Buffers.{count_at}
 use Rattle.b1_inv_peer.specs.Needs.{StagesAnew}
 use Rattle.b1_inv_peer.specs.PeerOk.{count, is_notice_of, IsRoom}
 use Rattle.b1_inv_peer.proofs.Counts.{none_found}
@@ -49,9 +50,9 @@ found_some test queue some = at (find test queue) refl
     at None is = let none = none_found test queue is in absurd (omega (arith, none, some))
     at (Some f) is = ap is_some is
 
-room_without : (p : Fields) → IsPeer p → (serial : ℕ) → IsRoom (without (is_release_notice serial) p.mail.queue) (length p.nodes.nodes) p.handles.records (without_release serial p.mail).spare p.dead.room p.numbers
+room_without : (p : Fields) → IsPeer p → (serial : ℕ) → IsRoom (without (is_release_notice serial) p.mail.queue) (length p.nodes.nodes) p.handles.records (without_release serial p.mail).spare p.dead.room p.dead.singles (count_at p.dead.stacks)
 room_without p peer serial =
-    room_released p.mail.queue (length p.nodes.nodes) p.handles.records p.mail.spare p.dead.room p.numbers peer.room serial (without_release serial p.mail).spare
+    room_released p.mail.queue (length p.nodes.nodes) p.handles.records p.mail.spare p.dead.room p.dead.singles (count_at p.dead.stacks) peer.room serial (without_release serial p.mail).spare
     (λ none. spare_le (is_some (find (is_release_notice serial) p.mail.queue)) p.mail.spare)
     (λ some. spare_more (is_some (find (is_release_notice serial) p.mail.queue)) p.mail.spare (found_some (is_release_notice serial) p.mail.queue some))
 
@@ -78,7 +79,7 @@ module _ (p : Fields) (peer : IsPeer p) (index serial : ℕ) (made : serial < le
   none_left = none_unreleased serial p.nodes.nodes p.mail.queue live peer.ok.notices
 
   pub doomed_spare : 0 < (without_release serial p.mail).spare
-  doomed_spare = room_for_notice left (length p.nodes.nodes) p.handles.records (without_release serial p.mail).spare p.dead.room p.numbers (room_without p peer serial) key (OwnNotice serial index) serial refl (eq-eqb serial serial refl) made none_left
+  doomed_spare = room_for_notice left (length p.nodes.nodes) p.handles.records (without_release serial p.mail).spare p.dead.room p.dead.singles (count_at p.dead.stacks) (room_without p peer serial) key (OwnNotice serial index) serial refl (eq-eqb serial serial refl) made none_left
 
   pub doomed_kept : IsPeer (doomed_one index serial p)
   doomed_kept = record {
@@ -88,8 +89,8 @@ module _ (p : Fields) (peer : IsPeer p) (index serial : ℕ) (made : serial < le
         key (OwnNotice serial index) refl (λ node. refl)
         (subst (λ n. serial < n) (sym same_length) made, ap (λ n. is_live n.state) (own_node serial (in_state Dying) p.nodes.nodes made));
     room =
-        subst (λ n. IsRoom (own_noticed p.clock p.me index serial p.mail).queue n p.handles.records (own_noticed p.clock p.me index serial p.mail).spare p.dead.room p.numbers) (sym same_length)
-        (room_notice_put left (length p.nodes.nodes) p.handles.records (without_release serial p.mail).spare p.dead.room p.numbers (room_without p peer serial) key (OwnNotice serial index) serial refl (eq-eqb serial serial refl) made none_left);
+        subst (λ n. IsRoom (own_noticed p.clock p.me index serial p.mail).queue n p.handles.records (own_noticed p.clock p.me index serial p.mail).spare p.dead.room p.dead.singles (count_at p.dead.stacks)) (sym same_length)
+        (room_notice_put left (length p.nodes.nodes) p.handles.records (without_release serial p.mail).spare p.dead.room p.dead.singles (count_at p.dead.stacks) (room_without p peer serial) key (OwnNotice serial index) serial refl (eq-eqb serial serial refl) made none_left);
     contents = all_put (ContentOk p.store.bytes) key (OwnNotice serial index) left tt (λ f h. peer.contents f (without_has (is_release_notice serial) p.mail.queue f h));
     stored = peer.stored;
     owner = peer.owner;

@@ -10,6 +10,7 @@ use Rattle.b1_model.specs.MachineTables.{is_unheld, count_of, uncounted, with_no
 use Rattle.b1_step.specs.Rights.{Has}
 use Rattle.b1_nodes.specs.Nodes.{Nodes, node_in}
 use Rattle.b1_peer_queue.specs.Mail.{Mail}
+use Rattle.b1_peer_dead.specs.Buffers.{count_at}
 use Rattle.b1_inv_peer.specs.PeerOk.{count, is_notice_of, IsRoom}
 use Rattle.b1_inv_peer.proofs.Counts.{none_count, count_none}
 use Rattle.b1_inv_peer.proofs.Entries.{all_put}
@@ -31,7 +32,7 @@ detached serial holder k t = record t { nodes = with_node serial (uncounted hold
 pub drop_kept : (p : Fields) → IsPeer p → (serial holder k clock : ℕ) → 1 ≤ count_of (node_in p.nodes.nodes serial) holder → IsPeer (record p { clock = clock; nodes = detached serial holder k p.nodes })
 drop_kept p peer serial holder k clock some = record {
   ok = node_dropped p.me p.nodes.nodes p.store.slices p.mail.queue p.handles.records peer.ok serial holder k some;
-  room = subst (λ n. IsRoom p.mail.queue n p.handles.records p.mail.spare p.dead.room p.numbers) (sym (length-set p.nodes.nodes serial (uncounted holder k (node_in p.nodes.nodes serial)))) peer.room;
+  room = subst (λ n. IsRoom p.mail.queue n p.handles.records p.mail.spare p.dead.room p.dead.singles (count_at p.dead.stacks)) (sym (length-set p.nodes.nodes serial (uncounted holder k (node_in p.nodes.nodes serial)))) peer.room;
   contents = peer.contents;
   stored = peer.stored;
   owner = peer.owner;
@@ -44,7 +45,7 @@ drop_kept p peer serial holder k clock some = record {
 pub release_put : (p : Fields) → IsPeer p → (k : Key) (serial : ℕ) → serial < length p.nodes.nodes → is_live (node_in p.nodes.nodes serial).state ≡ true → is_unheld (node_in p.nodes.nodes serial) ≡ true → count (is_notice_of serial) p.mail.queue ≡ 0 → IsPeer (record p { mail = with_entry k (ReleaseNotice serial) p.mail })
 release_put p peer k serial made live unheld none = record {
   ok = notice_put p.me p.nodes.nodes p.store.slices p.mail.queue p.handles.records peer.ok k (ReleaseNotice serial) refl (λ node. refl) (made, live, unheld);
-  room = room_notice_put p.mail.queue (length p.nodes.nodes) p.handles.records p.mail.spare p.dead.room p.numbers peer.room k (ReleaseNotice serial) serial refl (eq-eqb serial serial refl) made none;
+  room = room_notice_put p.mail.queue (length p.nodes.nodes) p.handles.records p.mail.spare p.dead.room p.dead.singles (count_at p.dead.stacks) peer.room k (ReleaseNotice serial) serial refl (eq-eqb serial serial refl) made none;
   contents = all_put (ContentOk p.store.bytes) k (ReleaseNotice serial) p.mail.queue tt peer.contents;
   stored = peer.stored;
   owner = peer.owner;
@@ -80,7 +81,7 @@ is_due p peer serial holder k nodes r made some is tells so =
       live = both.0;
       unheld = both.1;
       none = none;
-      spare = room_for_notice p.mail.queue (length p.nodes.nodes) p.handles.records p.mail.spare p.dead.room p.numbers peer.room (record { stamp = 0; origin = 0; index = 0 }) (ReleaseNotice serial) serial refl (eq-eqb serial serial refl) made none;
+      spare = room_for_notice p.mail.queue (length p.nodes.nodes) p.handles.records p.mail.spare p.dead.room p.dead.singles (count_at p.dead.stacks) peer.room (record { stamp = 0; origin = 0; index = 0 }) (ReleaseNotice serial) serial refl (eq-eqb serial serial refl) made none;
     }
 
 -- where none passes none is found

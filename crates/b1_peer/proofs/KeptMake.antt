@@ -20,6 +20,7 @@ use Rattle.b1_handles.specs.Handles.{Handles, wired, given_for}
 use Rattle.b1_peer_queue.specs.Mail.{Mail}
 use Rattle.b1_peer_pool.specs.Stored.{IsStored}
 use Rattle.b1_peer_dead.specs.Dead.{DeadSeen}
+use Rattle.b1_peer_dead.specs.Buffers.{count_at}
 use Rattle.b1_inv_peer.specs.Needs.{AreDying}
 use Rattle.b1_inv_peer.specs.PeerOk.{count, is_notice_for, is_message, AreOk, IsRoom}
 use Rattle.b1_inv_peer.proofs.RecordFields.{field_stays_made, unneeded_flight, unneeded_notice}
@@ -46,7 +47,7 @@ dying_is_not_live (Destroyed stamp) is = refl
 pub destroyed_kept : (p : Fields) → IsPeer p → (doomed : List ℕ) (stamp clock : ℕ) (nodes : Nodes) → AreDying (part_of p) doomed → nodes ≡ record p.nodes { nodes = with_nodes doomed (in_state (Destroyed stamp)) p.nodes.nodes; late = [] } → IsPeer (record p { clock = clock; nodes = nodes })
 destroyed_kept p peer doomed stamp clock nodes dying nodes_are = rw nodes_are (record {
   ok = destroyed_ok stamp doomed p.me p.nodes.nodes p.store.slices p.mail.queue p.handles.records (λ s h. dying_is_not_live (node_in p.nodes.nodes s).state (has_all (λ serial. (serial < length p.nodes.nodes) × (is_dying (node_in p.nodes.nodes serial).state ≡ true)) doomed 0 s dying h).1) peer.ok;
-  room = subst (λ n. IsRoom p.mail.queue n p.handles.records p.mail.spare p.dead.room p.numbers) (sym (length-with_nodes doomed (in_state (Destroyed stamp)) p.nodes.nodes)) peer.room;
+  room = subst (λ n. IsRoom p.mail.queue n p.handles.records p.mail.spare p.dead.room p.dead.singles (count_at p.dead.stacks)) (sym (length-with_nodes doomed (in_state (Destroyed stamp)) p.nodes.nodes)) peer.room;
   contents = peer.contents;
   stored = peer.stored;
   owner = peer.owner;
@@ -69,7 +70,7 @@ made_peer p no_queue no_nodes no_records stored owner among few = record {
     flight = λ node far. refl;
     noticed = λ node. omega arith;
   }));
-  room = subst (λ q. IsRoom q (length p.nodes.nodes) p.handles.records p.mail.spare p.dead.room p.numbers) (sym no_queue) (subst (λ hs. IsRoom [] (length p.nodes.nodes) hs p.mail.spare p.dead.room p.numbers) (sym no_records) (subst (λ ns. IsRoom [] (length {A = NodePart} ns) [] p.mail.spare p.dead.room p.numbers) (sym no_nodes) (record { notices = omega arith; dead = omega arith; numbers = omega arith })));
+  room = subst (λ q. IsRoom q (length p.nodes.nodes) p.handles.records p.mail.spare p.dead.room p.dead.singles (count_at p.dead.stacks)) (sym no_queue) (subst (λ hs. IsRoom [] (length p.nodes.nodes) hs p.mail.spare p.dead.room p.dead.singles (count_at p.dead.stacks)) (sym no_records) (subst (λ ns. IsRoom [] (length {A = NodePart} ns) [] p.mail.spare p.dead.room p.dead.singles (count_at p.dead.stacks)) (sym no_nodes) (record { notices = omega arith; dead = omega arith; records = omega arith; messages = λ m. omega arith })));
   contents = λ f has. absurd (subst (λ q. Has q f) no_queue has);
   stored = stored;
   owner = owner;
@@ -82,7 +83,7 @@ made_peer p no_queue no_nodes no_records stored owner among few = record {
 pub count_kept : (p : Fields) → IsPeer p → (serial to : ℕ) (nodes : Nodes) → p.mail.queue ≡ [] → nodes ≡ record p.nodes { nodes = with_node serial (counted to) p.nodes.nodes } → IsPeer (record p { nodes = nodes })
 count_kept p peer serial to nodes no_queue nodes_are = rw nodes_are (record {
   ok = node_without_notice p.me p.nodes.nodes p.store.slices p.mail.queue p.handles.records peer.ok serial (counted to) (λ g h. absurd (subst (λ q. Has q g) no_queue h));
-  room = subst (λ n. IsRoom p.mail.queue n p.handles.records p.mail.spare p.dead.room p.numbers) (sym (length-set p.nodes.nodes serial (counted to (node_in p.nodes.nodes serial)))) peer.room;
+  room = subst (λ n. IsRoom p.mail.queue n p.handles.records p.mail.spare p.dead.room p.dead.singles (count_at p.dead.stacks)) (sym (length-set p.nodes.nodes serial (counted to (node_in p.nodes.nodes serial)))) peer.room;
   contents = peer.contents;
   stored = peer.stored;
   owner = peer.owner;
@@ -112,7 +113,7 @@ with_made_most peers number nodes = at (serial_of number nodes)
 pub spare_kept : (p : Fields) → IsPeer p → (mail : Mail) → mail ≡ record p.mail { spare = mail.spare } → p.mail.spare ≤ mail.spare → IsPeer (record p { mail = mail })
 spare_kept p peer mail same more = rw same (record {
   ok = peer.ok;
-  room = record { notices = (let old = peer.room.notices in omega (arith, old, more)); dead = peer.room.dead; numbers = peer.room.numbers };
+  room = record { notices = (let old = peer.room.notices in omega (arith, old, more)); dead = peer.room.dead; records = peer.room.records; messages = peer.room.messages };
   contents = peer.contents;
   stored = peer.stored;
   owner = peer.owner;
@@ -126,7 +127,8 @@ node_made_kept p peer number spare enough = record {
   room = record {
     notices = (let one = places_most p.mail.queue (length (with_made p.nodes.peers number p.nodes.nodes)) in let two = with_made_most p.nodes.peers number p.nodes.nodes in let three = unnoticed_most p.handles.records in omega (arith, one, two, three, enough));
     dead = peer.room.dead;
-    numbers = peer.room.numbers;
+    records = peer.room.records;
+    messages = peer.room.messages;
   };
   contents = peer.contents;
   stored = peer.stored;
@@ -137,8 +139,8 @@ node_made_kept p peer number spare enough = record {
 
 -- ---- another peer's node is held once more
 
-pub held_kept : (p : Fields) → IsPeer p → (node : NodeRef) (next given : ℕ) → length p.nodes.nodes + 1 + length p.handles.records ≤ p.mail.spare → length p.handles.records + 1 + length p.mail.queue ≤ p.dead.room → IsPeer (record p { handles = record { records = changed_or_made node (more_held next) p.handles.records; given = given } })
-held_kept p peer node next given enough items = record {
+pub held_kept : (p : Fields) → IsPeer p → (node : NodeRef) (next given : ℕ) → length p.nodes.nodes + 1 + length p.handles.records ≤ p.mail.spare → length p.handles.records + 1 + length p.mail.queue ≤ p.dead.room → length p.handles.records + 1 ≤ p.dead.singles → IsPeer (record p { handles = record { records = changed_or_made node (more_held next) p.handles.records; given = given } })
+held_kept p peer node next given enough items singles = record {
   ok = record {
     rising = rising_made node (more_held next) (λ h. refl) p.handles.records peer.ok.rising;
     needed = needed_made node (more_held next) (λ h. held_needs (more_held next h) h.held refl) p.handles.records peer.ok.needed;
@@ -153,7 +155,8 @@ held_kept p peer node next given enough items = record {
   room = record {
     notices = (let one = places_most p.mail.queue (length p.nodes.nodes) in let two = unnoticed_made node (more_held next) (λ h. refl) p.handles.records in let three = unnoticed_most p.handles.records in omega (arith, one, two, three, enough));
     dead = (let one = count_most is_message p.mail.queue in let two = one_more_made node (more_held next) p.handles.records in omega (arith, one, two, items));
-    numbers = peer.room.numbers;
+    records = (let two = one_more_made node (more_held next) p.handles.records in omega (arith, two, singles));
+    messages = peer.room.messages;
   };
   contents = peer.contents;
   stored = peer.stored;
@@ -162,10 +165,10 @@ held_kept p peer node next given enough items = record {
   few = peer.few;
 }
 
-pub items_kept : (p : Fields) → IsPeer p → (dead : DeadSeen) → dead ≡ record p.dead { room = dead.room } → p.dead.room ≤ dead.room → IsPeer (record p { dead = dead })
-items_kept p peer dead same more = rw same (record {
+pub items_kept : (p : Fields) → IsPeer p → (dead : DeadSeen) → dead ≡ record p.dead { room = dead.room; singles = dead.singles } → p.dead.room ≤ dead.room → p.dead.singles ≤ dead.singles → IsPeer (record p { dead = dead })
+items_kept p peer dead same more grown = rw same (record {
   ok = peer.ok;
-  room = record { notices = peer.room.notices; dead = (let old = peer.room.dead in omega (arith, old, more)); numbers = peer.room.numbers };
+  room = record { notices = peer.room.notices; dead = (let old = peer.room.dead in omega (arith, old, more)); records = (let old = peer.room.records in omega (arith, old, grown)); messages = peer.room.messages };
   contents = peer.contents;
   stored = peer.stored;
   owner = peer.owner;
@@ -176,11 +179,14 @@ items_kept p peer dead same more = rw same (record {
 pub with_table : (p : Fields) → IsPeer p → (number spare : ℕ) (nodes : Nodes) → nodes ≡ record p.nodes { nodes = with_made p.nodes.peers number p.nodes.nodes; spare = spare } → length p.nodes.nodes + 1 + length p.handles.records ≤ p.mail.spare → IsPeer (record p { nodes = nodes })
 with_table p peer number spare nodes is enough = subst (λ (t : Nodes). IsPeer (record p { nodes = t })) (sym is) (node_made_kept p peer number spare enough)
 
-pub held_done : (p : Fields) → IsPeer p → (node : NodeRef) (mail : Mail) (dead : DeadSeen) (handles : Handles) → mail ≡ record p.mail { spare = mail.spare } → p.mail.spare ≤ mail.spare → dead ≡ record p.dead { room = dead.room } → p.dead.room ≤ dead.room → handles ≡ wired node p.handles → length p.nodes.nodes + 1 + length p.handles.records ≤ mail.spare → length p.handles.records + 1 + length p.mail.queue ≤ dead.room → IsPeer (record p { mail = mail; handles = handles; dead = dead })
-held_done p peer node mail dead handles mail_same mail_more dead_same dead_more wired_is enough items =
+pub held_done : (p : Fields) → IsPeer p → (node : NodeRef) (mail : Mail) (mid dead : DeadSeen) (handles : Handles) → mail ≡ record p.mail { spare = mail.spare } → p.mail.spare ≤ mail.spare → mid ≡ record p.dead { room = mid.room } → p.dead.room ≤ mid.room → dead ≡ record mid { singles = dead.singles } → mid.singles ≤ dead.singles → handles ≡ wired node p.handles → length p.nodes.nodes + 1 + length p.handles.records ≤ mail.spare → length p.handles.records + 1 + length p.mail.queue ≤ mid.room → length p.handles.records + 1 ≤ dead.singles → IsPeer (record p { mail = mail; handles = handles; dead = dead })
+held_done p peer node mail mid dead handles mail_same mail_more mid_same mid_more dead_same dead_more wired_is enough items singles =
+    let rooms : dead.room ≡ mid.room = ap (λ (d : DeadSeen). d.room) dead_same in
+    let same : dead ≡ record p.dead { room = dead.room; singles = dead.singles } = dead_same ∙ ap {A = DeadSeen} {B = DeadSeen} (λ d. record d { room = mid.room; singles = dead.singles }) mid_same ∙ ap {A = ℕ} {B = DeadSeen} (λ n. record p.dead { room = n; singles = dead.singles }) (sym rooms) in
+    let ones : mid.singles ≡ p.dead.singles = ap (λ (d : DeadSeen). d.singles) mid_same in
     subst (λ (hs : Handles). IsPeer (record p { mail = mail; handles = hs; dead = dead })) (sym wired_is)
-    (held_kept (record p { mail = mail; dead = dead }) (items_kept (record p { mail = mail }) (spare_kept p peer mail mail_same mail_more) dead dead_same dead_more) node (next_number p.handles.given) (given_for node p.handles) enough
-    (subst (λ (m : Mail). length p.handles.records + 1 + length m.queue ≤ dead.room) (sym mail_same) items))
+    (held_kept (record p { mail = mail; dead = dead }) (items_kept (record p { mail = mail }) (spare_kept p peer mail mail_same mail_more) dead same (omega (arith, rooms, mid_more)) (omega (arith, ones, dead_more))) node (next_number p.handles.given) (given_for node p.handles) enough
+    (subst (λ (m : Mail). length p.handles.records + 1 + length m.queue ≤ dead.room) (sym mail_same) (omega (arith, rooms, items))) singles)
 
 -- ---- users
 

@@ -32,6 +32,7 @@ use Rattle.b1_peer_pool.specs.Stored.{Stored, IsStored}
 use Rattle.b1_peer_pool.proofs.Fits.{padded_len-within}
 use Rattle.b1_peer_dead.specs.Dead.{DeadSeen}
 use Rattle.b1_peer_carried.specs.Carry.{AreCarried, HasTables, arriving, may_arrive}
+use Rattle.b1_peer_dead.specs.Buffers.{LosesOne, count_at}
 use Rattle.b1_inv_peer.specs.Needs.{AreSlots}
 use Rattle.b1_inv_peer.specs.PeerOk.{is_message, begins_at, AreOk, IsRoom}
 use Rattle.b1_inv_peer.specs.Changes.{LessFlight, KeepsOthers}
@@ -46,6 +47,7 @@ use Rattle.b1_peer.specs.declared.front.Kind.TheVariants as kind
 use Rattle.b1_peer.specs.Fronts.{kind_of}
 use Rattle.b1_peer.proofs.Bridges.{queued_slice, message_queued, message_len, others_published, slots_may, carried_here}
 use Rattle.b1_peer.proofs.KeptStage.{content_elsewhere}
+use Rattle.b1_peer.proofs.KeptSends.{message_set}
 use Rattle.b1_peer.proofs.KeptRecv.{FrontMessage, front_message}
 
 abbrev Queue : Type 0
@@ -121,7 +123,7 @@ pub record Arrivable (p : Fields) (serial offset : ℕ) (nodes : List NodeRef) (
   pub short : length payload ≤ MOST_PAYLOAD
   pub few : length nodes ≤ MOST_HANDLES
   pub room : 1 ≤ p.dead.room
-  pub stock : 1 ≤ p.numbers
+  pub set : 1 ≤ count_at p.dead.stacks (length nodes)
   pub may : All (λ o. may_arrive p.me (length p.nodes.nodes) o ≡ true) (zip nodes slots)
   pub carried : AreCarried (foreign p.me nodes) p.handles.records
   pub holds : Holds offset p.store.bytes (padded payload)
@@ -134,7 +136,6 @@ arrivable p peer k origin user index serial offset len nodes slots handles paylo
     let sliced : slice_at offset p.store.slices ≡ Some (queued_slice offset len (length nodes)) = peer.ok.sliced (k, Message origin user index serial offset len nodes slots handles payload) has in
     let some = has_count is_message p.mail.queue (k, Message origin user index serial offset len nodes slots handles payload) has refl in
     let items = peer.room.dead in
-    let buffers = peer.room.numbers in
     let as_long = message.as_long in
     let short = message.short in
     record {
@@ -144,7 +145,7 @@ arrivable p peer k origin user index serial offset len nodes slots handles paylo
       short = omega (arith, as_long, short);
       few = message.few;
       room = omega (arith, some, items);
-      stock = omega (arith, some, buffers);
+      set = message_set p peer (k, Message origin user index serial offset len nodes slots handles payload) has refl;
       may = slots_may p.me (length p.nodes.nodes) nodes slots (message.known even);
       carried = carried_here p.me p.nodes.nodes p.store.slices p.mail.queue p.handles.records peer.ok (k, Message origin user index serial offset len nodes slots handles payload) has;
       holds = peer.contents (k, Message origin user index serial offset len nodes slots handles payload) has;
@@ -159,10 +160,10 @@ arrived_less p peer x nodes slots table me_is handles_are are part_is =
     subst (λ hs. LessFlight p.me nodes hs table.records) handles_are (subst (λ (y : PeerPart). LessFlight p.me nodes x.handles y.handles) part_is arrives.less)
 
 -- a peer whose message at the front arrived
-pub arrived_kept : (p : Fields) → IsPeer p → (f : Key × Entry) → FrontMessage p f → (serial offset : ℕ) (nodes : List NodeRef) (slots : List Slot) (payload : List ℕ) → Arrivable p serial offset nodes slots payload → carried f.1 ≡ nodes → offset_of f.1 ≡ offset → (x : PeerPart) → x.me ≡ p.me → x.handles ≡ p.handles.records → (mail : Mail) (store : Stored) (table : Handles) (dead : DeadSeen) (numbers : ℕ) → mail.queue ≡ drop 1 p.mail.queue → p.mail.spare ≤ mail.spare → store.slices ≡ published offset p.store.slices → SameElsewhere offset p.store.slices p.store.bytes store.bytes → IsStored store → (slots_arrived x nodes slots).part ≡ record x { handles = table.records; given = table.given } → p.dead.room ≤ dead.room + 1 → p.numbers ≤ numbers + 1 → IsPeer (record p { mail = mail; store = store; handles = table; dead = dead; numbers = numbers })
-arrived_kept p peer f front serial offset nodes slots payload can carried_is offset_is x me_is handles_are mail store table dead numbers queue_is spare_is slices_are same stored part_is items_le buffers_le = record {
+pub arrived_kept : (p : Fields) → IsPeer p → (f : Key × Entry) → FrontMessage p f → (serial offset : ℕ) (nodes : List NodeRef) (slots : List Slot) (payload : List ℕ) → Arrivable p serial offset nodes slots payload → carried f.1 ≡ nodes → offset_of f.1 ≡ offset → (x : PeerPart) → x.me ≡ p.me → x.handles ≡ p.handles.records → (mail : Mail) (store : Stored) (table : Handles) (dead : DeadSeen) → mail.queue ≡ drop 1 p.mail.queue → p.mail.spare ≤ mail.spare → store.slices ≡ published offset p.store.slices → SameElsewhere offset p.store.slices p.store.bytes store.bytes → IsStored store → (slots_arrived x nodes slots).part ≡ record x { handles = table.records; given = table.given } → p.dead.room ≤ dead.room + 1 → p.dead.singles ≤ dead.singles → LosesOne (length nodes) p.dead.stacks dead.stacks → IsPeer (record p { mail = mail; store = store; handles = table; dead = dead })
+arrived_kept p peer f front serial offset nodes slots payload can carried_is offset_is x me_is handles_are mail store table dead queue_is spare_is slices_are same stored part_is items_le singles_le sets_le = record {
   ok = subst (λ q. AreOk p.me p.nodes.nodes store.slices q table.records) (sym queue_is) (message_left p.me p.nodes.nodes p.store.slices p.mail.queue p.handles.records peer.ok (drop 1 p.mail.queue) f front.gone front.is store.slices table.records keeps less);
-  room = subst (λ q. IsRoom q (length p.nodes.nodes) table.records mail.spare dead.room numbers) (sym queue_is) (room_message_left p.mail.queue (length p.nodes.nodes) p.handles.records p.mail.spare p.dead.room p.numbers peer.room (drop 1 p.mail.queue) f table.records p.me (carried f.1) mail.spare dead.room numbers front.gone front.is less spare_is items_le buffers_le);
+  room = subst (λ q. IsRoom q (length p.nodes.nodes) table.records mail.spare dead.room dead.singles (count_at dead.stacks)) (sym queue_is) (room_message_left p.mail.queue (length p.nodes.nodes) p.handles.records p.mail.spare p.dead.room p.dead.singles (count_at p.dead.stacks) peer.room (drop 1 p.mail.queue) f table.records p.me (carried f.1) mail.spare dead.room dead.singles (count_at dead.stacks) front.gone front.is less spare_is items_le singles_le (subst (λ ns. LosesOne (length ns) p.dead.stacks dead.stacks) (sym carried_is) sets_le));
   contents = λ g h. (let there = subst (λ q. Has q g) queue_is h in content_elsewhere offset p.me (length p.nodes.nodes) p.store.slices p.store.bytes store.bytes g same (peer.ok.messages g (front.gone.less g there)) (peer.ok.sliced g (front.gone.less g there)) (subst (λ o. begins_at o g ≡ false) offset_is (left_apart p.me p.nodes.nodes p.store.slices p.mail.queue p.handles.records peer.ok (drop 1 p.mail.queue) f front.gone front.is g there)) (peer.contents g (front.gone.less g there)));
   stored = stored;
   owner = peer.owner;
@@ -185,14 +186,14 @@ taken_arrivable p s peer is serial kinds r k e some found origin user index dest
     (arrivable p peer k origin user index dest offset len nodes slots handles payload (subst (λ d. Has p.mail.queue (k, d)) e_is front.gone.was) (subst (λ d. is_staged (k, d) ≡ false) e_is front.even)))
 
 pub taken_kept : (p : Fields) (s : PeerSeen) → IsPeer p → seen_of p ≡ s → (serial : ℕ) → kind_of s.part.queue ≡ kind.Message serial → (r : Option (Key × Entry)) (k : Key) (e : Entry) → r ≡ Some (k, e) → r ≡ slice_get p.mail.queue 0 → (origin user index dest offset len : ℕ) (nodes new_nodes : List NodeRef) (slots new_slots : List Slot) (handles payload : List ℕ) → e ≡ Message origin user index dest offset len nodes slots handles payload → new_nodes ≡ nodes → new_slots ≡ slots →
-    (mail : Mail) (store : Stored) (table : Handles) (dead : DeadSeen) (numbers : ℕ) → mail ≡ record p.mail { queue = drop 1 p.mail.queue; spare = cond (is_some r) (p.mail.spare + 1) p.mail.spare } → store.slices ≡ published offset p.store.slices → SameElsewhere offset p.store.slices p.store.bytes store.bytes → IsStored store → (slots_arrived (part_of p) new_nodes new_slots).part ≡ record (part_of p) { handles = table.records; given = table.given } → p.dead.room ≤ dead.room + 1 → p.numbers ≤ numbers + 1 → IsPeer (record p { mail = mail; store = store; handles = table; dead = dead; numbers = numbers })
-taken_kept p s peer is serial kinds r k e some found origin user index dest offset len nodes new_nodes slots new_slots handles payload e_is nodes_are slots_are mail store table dead numbers mail_is slices_are same stored part_is items_le buffers_le =
+    (mail : Mail) (store : Stored) (table : Handles) (dead : DeadSeen) → mail ≡ record p.mail { queue = drop 1 p.mail.queue; spare = cond (is_some r) (p.mail.spare + 1) p.mail.spare } → store.slices ≡ published offset p.store.slices → SameElsewhere offset p.store.slices p.store.bytes store.bytes → IsStored store → (slots_arrived (part_of p) new_nodes new_slots).part ≡ record (part_of p) { handles = table.records; given = table.given } → p.dead.room ≤ dead.room + 1 → p.dead.singles ≤ dead.singles → LosesOne (length new_nodes) p.dead.stacks dead.stacks → IsPeer (record p { mail = mail; store = store; handles = table; dead = dead })
+taken_kept p s peer is serial kinds r k e some found origin user index dest offset len nodes new_nodes slots new_slots handles payload e_is nodes_are slots_are mail store table dead mail_is slices_are same stored part_is items_le singles_le sets_le =
     arrived_kept p peer (k, e) (front_message p s peer is serial kinds r (k, e) some found) dest offset new_nodes new_slots payload
     (taken_arrivable p s peer is serial kinds r k e some found origin user index dest offset len nodes new_nodes slots new_slots handles payload e_is nodes_are slots_are)
-    (ap carried e_is ∙ sym nodes_are) (ap offset_of e_is) (part_of p) refl refl mail store table dead numbers
+    (ap carried e_is ∙ sym nodes_are) (ap offset_of e_is) (part_of p) refl refl mail store table dead
     (ap (λ (m : Mail). m.queue) mail_is)
     (let more = ap (λ (m : Mail). m.spare) mail_is in let grown : cond (is_some r) (p.mail.spare + 1) p.mail.spare ≡ p.mail.spare + 1 = ap (λ (o : Option (Key × Entry)). cond (is_some o) (p.mail.spare + 1) p.mail.spare) some in omega (arith, more, grown))
-    slices_are same stored part_is items_le buffers_le
+    slices_are same stored part_is items_le singles_le sets_le
 
 -- the slice of a queued message isn't a received one
 pub not_received : (offset : ℕ) (slices : List Slice) → is_queued offset slices ≡ true → (t : Slice) → slice_at offset slices ≡ Some t → is_published t ≡ true → ⊥

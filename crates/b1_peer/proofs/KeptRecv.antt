@@ -3,7 +3,6 @@ use Rattle.std.proofs.Common.{◌≡◌, ◌≢◌, refl, sym, ap, ◌∙◌, in
 use Rattle.std.specs.Prelude.{slice_get}
 use Rattle.std.proofs.lemmas.List.{length-set}
 use native.Mathlib.Omega.{arith}
-use Rattle.b1_model.specs.declared.limits.TheConstants.{MOST_HANDLES}
 use Rattle.b1_model.specs.declared.naming.Key.{Key}
 use Rattle.b1_model.specs.declared.naming.NodeRef.{NodeRef}
 use Rattle.b1_model.specs.declared.entries.Entry.{Entry}
@@ -23,6 +22,7 @@ use Rattle.b1_handles.specs.Handles.{Handles}
 use Rattle.b1_peer_queue.specs.Mail.{Mail}
 use Rattle.b1_peer_pool.specs.Stored.{Stored, IsStored}
 use Rattle.b1_peer_dead.specs.Dead.{DeadSeen}
+use Rattle.b1_peer_dead.specs.Buffers.{LosesOne, count_at}
 use Rattle.b1_inv_peer.specs.PeerOk.{is_message, is_notice_for, is_notice_of, IsRoom, MessageOk, NoticeOk}
 use Rattle.b1_inv_peer.specs.Changes.{Removes}
 use Rattle.b1_inv_peer.proofs.Counts.{has_count}
@@ -137,7 +137,7 @@ end_kept p peer node is = at (first_there p.mail.queue (front_some p.mail.queue 
         let gone : Removes p.mail.queue (drop 1 p.mail.queue) (f.0, ForeignNotice node told.0) = subst (Removes p.mail.queue (drop 1 p.mail.queue)) told.1 (front_removed p.mail.queue f front) in
         record {
           ok = foreign_notice_left p.me p.nodes.nodes p.store.slices p.mail.queue p.handles.records peer.ok (drop 1 p.mail.queue) f.0 node told.0 gone;
-          room = room_foreign_left p.mail.queue (length p.nodes.nodes) p.handles.records p.mail.spare p.dead.room p.numbers peer.room (drop 1 p.mail.queue) f.0 node told.0 (p.mail.spare + 1) gone (omega arith);
+          room = room_foreign_left p.mail.queue (length p.nodes.nodes) p.handles.records p.mail.spare p.dead.room p.dead.singles (count_at p.dead.stacks) peer.room (drop 1 p.mail.queue) f.0 node told.0 (p.mail.spare + 1) gone (omega arith);
           contents = λ g h. peer.contents g (gone.less g h);
           stored = peer.stored;
           owner = peer.owner;
@@ -157,12 +157,6 @@ discarded_message x (ReleaseNotice serial) is = absurd (cc is)
 pub room_for_item : (p : Fields) → IsPeer p → (f : Key × Entry) → Has p.mail.queue f → is_data f.1 ≡ true → 1 ≤ p.dead.room
 room_for_item p peer f h is = let some = has_count is_message p.mail.queue f h is in let room = peer.room.dead in omega (arith, some, room)
 
-pub few_carried : (me made : ℕ) (f : Key × Entry) → MessageOk me made f → is_data f.1 ≡ true → length (carried f.1) ≤ MOST_HANDLES
-few_carried me made (k, Message origin user index serial offset len nodes slots handles payload) right is = right.few
-few_carried me made (k, OwnNotice serial index) right is = absurd (cc is)
-few_carried me made (k, ForeignNotice node index) right is = absurd (cc is)
-few_carried me made (k, ReleaseNotice serial) right is = absurd (cc is)
-
 -- what stands at the front, by what was taken
 pub record FrontMessage (p : Fields) (f : Key × Entry) : Type 0 where
   pub is : is_data f.1 ≡ true
@@ -176,12 +170,12 @@ front_message p s peer is serial kinds r f some front =
     let told = message_front p.mail.queue serial f (subst (λ (x : PeerSeen). kind_of x.part.queue ≡ kind.Message serial) (sym is) kinds) there in
     record { is = told.0; even = told.1; queue_is = front_is p.mail.queue f there; gone = front_removed p.mail.queue f there }
 
-pub discard_kept : (p : Fields) → IsPeer p → (f : Key × Entry) → FrontMessage p f → (r : Option (Key × Entry)) (mail : Mail) (store : Stored) (handles : Handles) (dead : DeadSeen) → r ≡ Some f → mail ≡ record p.mail { queue = drop 1 p.mail.queue; spare = cond (is_some r) (p.mail.spare + 1) p.mail.spare } → store.slices ≡ given_back (offset_of f.1) p.store.slices → store.bytes ≡ p.store.bytes → IsStored store → handles ≡ record p.handles { records = unexpected (foreign p.me (carried f.1)) p.handles.records } → p.dead.room ≤ dead.room + 1 → IsPeer (record p { mail = mail; store = store; handles = handles; dead = dead })
-discard_kept p peer f front r mail store handles dead some mail_is slices_are same stored handles_are room =
-    message_gone p peer (drop 1 p.mail.queue) f mail store handles dead p.numbers front.gone front.is
+pub discard_kept : (p : Fields) → IsPeer p → (f : Key × Entry) → FrontMessage p f → (r : Option (Key × Entry)) (mail : Mail) (store : Stored) (handles : Handles) (dead : DeadSeen) → r ≡ Some f → mail ≡ record p.mail { queue = drop 1 p.mail.queue; spare = cond (is_some r) (p.mail.spare + 1) p.mail.spare } → store.slices ≡ given_back (offset_of f.1) p.store.slices → store.bytes ≡ p.store.bytes → IsStored store → handles ≡ record p.handles { records = unexpected (foreign p.me (carried f.1)) p.handles.records } → p.dead.room ≤ dead.room + 1 → p.dead.singles ≤ dead.singles → LosesOne (length (carried f.1)) p.dead.stacks dead.stacks → IsPeer (record p { mail = mail; store = store; handles = handles; dead = dead })
+discard_kept p peer f front r mail store handles dead some mail_is slices_are same stored handles_are room singles loses =
+    message_gone p peer (drop 1 p.mail.queue) f mail store handles dead front.gone front.is
     (ap (λ (m : Mail). m.queue) mail_is)
     (let more = ap (λ (m : Mail). m.spare) mail_is in let grown : cond (is_some r) (p.mail.spare + 1) p.mail.spare ≡ p.mail.spare + 1 = ap (λ (o : Option (Key × Entry)). cond (is_some o) (p.mail.spare + 1) p.mail.spare) some in omega (arith, more, grown))
-    slices_are same stored handles_are room (omega arith)
+    slices_are same stored handles_are room singles loses
 
 pub discard_seen : (p : Fields) (s : PeerSeen) → IsPeer p → seen_of p ≡ s → (f : Key × Entry) → FrontMessage p f → (r : Option (Key × Entry)) (mail : Mail) (store : Stored) (handles : Handles) (dead : DeadSeen) → mail ≡ record p.mail { queue = drop 1 p.mail.queue; spare = cond (is_some r) (p.mail.spare + 1) p.mail.spare } → store.slices ≡ given_back (offset_of f.1) p.store.slices → store.size ≡ p.store.size → store.bytes ≡ p.store.bytes → handles ≡ record p.handles { records = unexpected (foreign p.me (carried f.1)) p.handles.records } → dead.items ≡ with_item (references f.1) p.dead.items → ◌≡◌ {A = PeerSeen} (seen_of (record p { mail = mail; store = store; handles = handles; dead = dead })) (record s { part = front_gone s.part })
 discard_seen p s peer is f front r mail store handles dead mail_is slices_are size_is same handles_are dead_is =
@@ -218,7 +212,7 @@ taken_release x f rest serial queue_is is even =
 pub own_taken_kept : (p : Fields) → IsPeer p → (f : Key × Entry) → Removes p.mail.queue (drop 1 p.mail.queue) f → is_data f.1 ≡ false → (serial : ℕ) → ((s : ℕ) → s ≢ serial → is_notice_of s f ≡ false) → IsPeer (record p { mail = record p.mail { queue = drop 1 p.mail.queue; spare = p.mail.spare + 1 }; nodes = record p.nodes { nodes = with_node serial notice_taken p.nodes.nodes } })
 own_taken_kept p peer f gone is serial others = record {
   ok = node_changed_ok p.me p.nodes.nodes p.store.slices (drop 1 p.mail.queue) p.handles.records (notice_left p.me p.nodes.nodes p.store.slices p.mail.queue p.handles.records peer.ok (drop 1 p.mail.queue) f gone is) serial notice_taken (refl, refl);
-  room = subst (λ n. IsRoom (drop 1 p.mail.queue) n p.handles.records (p.mail.spare + 1) p.dead.room p.numbers) (sym (length-set p.nodes.nodes serial (notice_taken (node_in p.nodes.nodes serial)))) (room_notice_left p.mail.queue (length p.nodes.nodes) p.handles.records p.mail.spare p.dead.room p.numbers peer.room (drop 1 p.mail.queue) f serial (p.mail.spare + 1) gone others (omega arith));
+  room = subst (λ n. IsRoom (drop 1 p.mail.queue) n p.handles.records (p.mail.spare + 1) p.dead.room p.dead.singles (count_at p.dead.stacks)) (sym (length-set p.nodes.nodes serial (notice_taken (node_in p.nodes.nodes serial)))) (room_notice_left p.mail.queue (length p.nodes.nodes) p.handles.records p.mail.spare p.dead.room p.dead.singles (count_at p.dead.stacks) peer.room (drop 1 p.mail.queue) f serial (p.mail.spare + 1) gone others (omega arith));
   contents = λ g h. peer.contents g (gone.less g h);
   stored = peer.stored;
   owner = peer.owner;
@@ -229,7 +223,7 @@ own_taken_kept p peer f gone is serial others = record {
 pub release_taken_kept : (p : Fields) → IsPeer p → (f : Key × Entry) → Removes p.mail.queue (drop 1 p.mail.queue) f → is_data f.1 ≡ false → (serial : ℕ) → ((s : ℕ) → s ≢ serial → is_notice_of s f ≡ false) → IsPeer (record p { mail = record p.mail { queue = drop 1 p.mail.queue; spare = p.mail.spare + 1 } })
 release_taken_kept p peer f gone is serial others = record {
   ok = notice_left p.me p.nodes.nodes p.store.slices p.mail.queue p.handles.records peer.ok (drop 1 p.mail.queue) f gone is;
-  room = room_notice_left p.mail.queue (length p.nodes.nodes) p.handles.records p.mail.spare p.dead.room p.numbers peer.room (drop 1 p.mail.queue) f serial (p.mail.spare + 1) gone others (omega arith);
+  room = room_notice_left p.mail.queue (length p.nodes.nodes) p.handles.records p.mail.spare p.dead.room p.dead.singles (count_at p.dead.stacks) peer.room (drop 1 p.mail.queue) f serial (p.mail.spare + 1) gone others (omega arith);
   contents = λ g h. peer.contents g (gone.less g h);
   stored = peer.stored;
   owner = peer.owner;

@@ -1,6 +1,7 @@
 -- A peer stays what it is where the events of a SEND change it.
 use Rattle.std.proofs.Common.{◌≡◌, refl, sym, ap, ◌∙◌, subst, ℕ, ◌+◌, ◌≤◌, ◌%◌, Bool, true, false, cond, not, ◌&&◌, List, [], ◌∷◌, find, length, is_some, Option, Some, None, Result, Ok, Err, ◌==◌}
 use Rattle.std.specs.Prelude.{IfOk, OnErr}
+use Rattle.std.proofs.lemmas.Bool.{eq-eqb}
 use Rattle.std.proofs.lemmas.List.{length-set}
 use native.Mathlib.Omega.{arith}
 use Rattle.b1_model.specs.declared.naming.Key.{Key}
@@ -24,10 +25,11 @@ use Rattle.b1_peer_pool.specs.Slices.{is_queued}
 use Rattle.b1_peer_pool.specs.Stored.{Stored, IsStored}
 use Rattle.b1_peer_dead.specs.Dead.{DeadSeen}
 use Rattle.b1_peer_carried.specs.Carry.{AreCarried}
+use Rattle.b1_peer_dead.specs.Buffers.{LosesOne, count_at}
 use Rattle.b1_inv_peer.specs.Needs.{SlotsFit, CommitsAnew}
-use Rattle.b1_inv_peer.specs.PeerOk.{count, is_notice_for, AreOk, IsRoom, SliceOk}
+use Rattle.b1_inv_peer.specs.PeerOk.{count, carries, is_notice_for, AreOk, IsRoom, SliceOk}
 use Rattle.b1_inv_peer.specs.Changes.{Removes, LessFlight, KeepsOthers}
-use Rattle.b1_inv_peer.proofs.Counts.{none_found}
+use Rattle.b1_inv_peer.proofs.Counts.{has_count, none_found}
 use Rattle.b1_inv_peer.proofs.RecordFields.{field_stays, unneeded_flight, unneeded_notice}
 use Rattle.b1_inv_peer.proofs.RecordLists.{needed_changed, fewer_changed, unnoticed_changed}
 use Rattle.b1_inv_peer.proofs.Entries.{all_put, all_moved, slots_as_many}
@@ -72,8 +74,8 @@ pub attach_kept : (p : Fields) → IsPeer p → (serial dest : ℕ) (late : List
 })
 attach_kept p peer serial dest late = record {
   ok = released_changed p.me p.nodes.nodes p.store.slices p.mail.queue p.handles.records peer.ok serial (counted dest) refl;
-  room = subst (λ n. IsRoom (without (is_release_notice serial) p.mail.queue) n p.handles.records (spare_after p serial) p.dead.room p.numbers) (sym (length-set p.nodes.nodes serial (counted dest (node_in p.nodes.nodes serial))))
-      (room_released p.mail.queue (length p.nodes.nodes) p.handles.records p.mail.spare p.dead.room p.numbers peer.room serial (spare_after p serial)
+  room = subst (λ n. IsRoom (without (is_release_notice serial) p.mail.queue) n p.handles.records (spare_after p serial) p.dead.room p.dead.singles (count_at p.dead.stacks)) (sym (length-set p.nodes.nodes serial (counted dest (node_in p.nodes.nodes serial))))
+      (room_released p.mail.queue (length p.nodes.nodes) p.handles.records p.mail.spare p.dead.room p.dead.singles (count_at p.dead.stacks) peer.room serial (spare_after p serial)
       (λ none. spare_le (is_some (find (is_release_notice serial) p.mail.queue)) p.mail.spare)
       (λ some. spare_more (is_some (find (is_release_notice serial) p.mail.queue)) p.mail.spare (found_some (is_release_notice serial) p.mail.queue some)));
   contents = λ f h. peer.contents f (without_has (is_release_notice serial) p.mail.queue f h);
@@ -130,12 +132,21 @@ slice_is slices (k, ReleaseNotice serial) is right = absurd (cc is)
 pub message_carried : (p : Fields) → IsPeer p → (f : Key × Entry) → Has p.mail.queue f → AreCarried (foreign p.me (carried f.1)) p.handles.records
 message_carried p peer f h = carried_here p.me p.nodes.nodes p.store.slices p.mail.queue p.handles.records peer.ok f h
 
+-- a queued message's buffers are there
+pub message_set : (p : Fields) → IsPeer p → (f : Key × Entry) → Has p.mail.queue f → is_data f.1 ≡ true → 1 ≤ count_at p.dead.stacks (length (carried f.1))
+message_set p peer f h is =
+    let n = length (carried f.1) in
+    let mine : carries (length (carried f.1)) f ≡ true = ap (λ b. b && (n == n)) is ∙ eq-eqb n n refl in
+    let some = has_count (carries (length (carried f.1))) p.mail.queue f h mine in
+    let room = peer.room.messages (length (carried f.1)) in
+    omega (arith, some, room)
+
 -- a queued message leaves with its slice and what it carries
-pub message_gone : (p : Fields) → IsPeer p → (left : Queue) (f : Key × Entry) (mail : Mail) (store : Stored) (handles : Handles) (dead : DeadSeen) (numbers : ℕ) → Removes p.mail.queue left f → is_data f.1 ≡ true → mail.queue ≡ left → p.mail.spare ≤ mail.spare → store.slices ≡ given_back (offset_of f.1) p.store.slices → store.bytes ≡ p.store.bytes → IsStored store → handles ≡ record p.handles { records = unexpected (foreign p.me (carried f.1)) p.handles.records } → p.dead.room ≤ dead.room + 1 → p.numbers ≤ numbers + 1 → IsPeer (record p { mail = mail; store = store; handles = handles; dead = dead; numbers = numbers })
-message_gone p peer left f mail store handles dead numbers gone is queue_is spare_is slices_are same stored handles_are items_le buffers_le =
+pub message_gone : (p : Fields) → IsPeer p → (left : Queue) (f : Key × Entry) (mail : Mail) (store : Stored) (handles : Handles) (dead : DeadSeen) → Removes p.mail.queue left f → is_data f.1 ≡ true → mail.queue ≡ left → p.mail.spare ≤ mail.spare → store.slices ≡ given_back (offset_of f.1) p.store.slices → store.bytes ≡ p.store.bytes → IsStored store → handles ≡ record p.handles { records = unexpected (foreign p.me (carried f.1)) p.handles.records } → p.dead.room ≤ dead.room + 1 → p.dead.singles ≤ dead.singles → LosesOne (length (carried f.1)) p.dead.stacks dead.stacks → IsPeer (record p { mail = mail; store = store; handles = handles; dead = dead })
+message_gone p peer left f mail store handles dead gone is queue_is spare_is slices_are same stored handles_are items_le singles_le sets_le =
     rw handles_are (record {
       ok = subst (λ q. AreOk p.me p.nodes.nodes store.slices q (unexpected (foreign p.me (carried f.1)) p.handles.records)) (sym queue_is) (message_left p.me p.nodes.nodes p.store.slices p.mail.queue p.handles.records peer.ok left f gone is store.slices (unexpected (foreign p.me (carried f.1)) p.handles.records) keeps less);
-      room = subst (λ q. IsRoom q (length p.nodes.nodes) (unexpected (foreign p.me (carried f.1)) p.handles.records) mail.spare dead.room numbers) (sym queue_is) (room_message_left p.mail.queue (length p.nodes.nodes) p.handles.records p.mail.spare p.dead.room p.numbers peer.room left f (unexpected (foreign p.me (carried f.1)) p.handles.records) p.me (carried f.1) mail.spare dead.room numbers gone is less spare_is items_le buffers_le);
+      room = subst (λ q. IsRoom q (length p.nodes.nodes) (unexpected (foreign p.me (carried f.1)) p.handles.records) mail.spare dead.room dead.singles (count_at dead.stacks)) (sym queue_is) (room_message_left p.mail.queue (length p.nodes.nodes) p.handles.records p.mail.spare p.dead.room p.dead.singles (count_at p.dead.stacks) peer.room left f (unexpected (foreign p.me (carried f.1)) p.handles.records) p.me (carried f.1) mail.spare dead.room dead.singles (count_at dead.stacks) gone is less spare_is items_le singles_le sets_le);
       contents = λ g h. subst (λ bytes. ContentOk bytes g) (sym same) (peer.contents g (gone.less g (subst (λ q. Has q g) queue_is h)));
       stored = stored;
       owner = peer.owner;
@@ -149,14 +160,17 @@ message_gone p peer left f mail store handles dead numbers gone is queue_is spar
     keeps : KeepsOthers (offset_of f.1) p.store.slices store.slices
     keeps = let there = slice_is p.store.slices f is (peer.ok.sliced f gone.was) in subst (λ ss. KeepsOthers (offset_of f.1) p.store.slices ss) (sym slices_are) (others_given_back p.store.size (offset_of f.1) p.store.slices there.0 peer.stored.pool there.1)
 
-pub unstage_kept : (p : Fields) → IsPeer p → (origin index : ℕ) (f : Key × Entry) (r : Option (Key × Entry)) (mail : Mail) (store : Stored) (handles : Handles) → r ≡ Some f → r ≡ find (is_stage origin index) p.mail.queue → mail ≡ record p.mail { queue = without (is_stage origin index) p.mail.queue; spare = cond (is_some r) (p.mail.spare + 1) p.mail.spare } → store.slices ≡ given_back (offset_of f.1) p.store.slices → store.bytes ≡ p.store.bytes → IsStored store → handles ≡ record p.handles { records = unexpected (foreign p.me (carried f.1)) p.handles.records } → IsPeer (record p { mail = mail; store = store; handles = handles })
-unstage_kept p peer origin index f r mail store handles some found mail_is slices_are same stored handles_are =
-    message_gone p peer (without (is_stage origin index) p.mail.queue) f mail store handles p.dead p.numbers
+pub unstage_kept : (p : Fields) → IsPeer p → (origin index : ℕ) (f : Key × Entry) (r : Option (Key × Entry)) (mail : Mail) (store : Stored) (handles : Handles) (dead : DeadSeen) → r ≡ Some f → r ≡ find (is_stage origin index) p.mail.queue → mail ≡ record p.mail { queue = without (is_stage origin index) p.mail.queue; spare = cond (is_some r) (p.mail.spare + 1) p.mail.spare } → store.slices ≡ given_back (offset_of f.1) p.store.slices → store.bytes ≡ p.store.bytes → IsStored store → handles ≡ record p.handles { records = unexpected (foreign p.me (carried f.1)) p.handles.records } → dead ≡ record p.dead { stacks = dead.stacks } → LosesOne (length (carried f.1)) p.dead.stacks dead.stacks → IsPeer (record p { mail = mail; store = store; handles = handles; dead = dead })
+unstage_kept p peer origin index f r mail store handles dead some found mail_is slices_are same stored handles_are dead_is loses =
+    message_gone p peer (without (is_stage origin index) p.mail.queue) f mail store handles dead
     (removes_found (is_stage origin index) p.mail.queue f (peer.ok.stages origin index) (sym found ∙ some))
     (stage_found p peer origin index f (sym found ∙ some)).1
     (ap (λ m. m.queue) mail_is)
     (subst (λ m. p.mail.spare ≤ m.spare) (sym mail_is) (spare_le (is_some r) p.mail.spare))
-    slices_are same stored handles_are (omega arith) (omega arith)
+    slices_are same stored handles_are
+    (let rooms : dead.room ≡ p.dead.room = ap (λ (d : DeadSeen). d.room) dead_is in omega (arith, rooms))
+    (let ones : dead.singles ≡ p.dead.singles = ap (λ (d : DeadSeen). d.singles) dead_is in omega (arith, ones))
+    loses
 
 -- ---- commit
 
@@ -181,7 +195,7 @@ commit_kept p peer origin index stamp slots even fits = at (find (is_stage origi
         let gone : Removes p.mail.queue (without (is_stage origin index) p.mail.queue) f = removes_found (is_stage origin index) p.mail.queue f (peer.ok.stages origin index) is in
         record {
           ok = message_is_committed p.me p.nodes.nodes p.store.slices p.mail.queue p.handles.records peer.ok (without (is_stage origin index) p.mail.queue) f gone new slots (odd_of_even stamp even) fit;
-          room = room_committed p.mail.queue (length p.nodes.nodes) p.handles.records p.mail.spare p.dead.room p.numbers peer.room (without (is_stage origin index) p.mail.queue) f new slots gone;
+          room = room_committed p.mail.queue (length p.nodes.nodes) p.handles.records p.mail.spare p.dead.room p.dead.singles (count_at p.dead.stacks) peer.room (without (is_stage origin index) p.mail.queue) f new slots gone;
           contents = all_put (ContentOk p.store.bytes) new (with_slots slots f.1) (without (is_stage origin index) p.mail.queue) (content_committed p.store.bytes f.0 new f.1 slots (peer.contents f gone.was)) (λ g h. peer.contents g (gone.less g h));
           stored = peer.stored;
           owner = peer.owner;
@@ -212,7 +226,7 @@ content_moved bytes stamp (k, ReleaseNotice serial) is = is
 pub notices_kept : (p : Fields) → IsPeer p → (origin stamp : ℕ) → IsPeer (record p { mail = record p.mail { queue = notices_queue origin stamp p.mail.queue } })
 notices_kept p peer origin stamp = record {
   ok = notices_are_committed p.me p.nodes.nodes p.store.slices p.mail.queue p.handles.records peer.ok origin stamp;
-  room = room_notices_committed p.mail.queue (length p.nodes.nodes) p.handles.records p.mail.spare p.dead.room p.numbers peer.room origin stamp;
+  room = room_notices_committed p.mail.queue (length p.nodes.nodes) p.handles.records p.mail.spare p.dead.room p.dead.singles (count_at p.dead.stacks) peer.room origin stamp;
   contents = all_moved (ContentOk p.store.bytes) (is_staged_notice origin) (with_stamp stamp) p.mail.queue (λ f is was. content_moved p.store.bytes stamp f was) peer.contents;
   stored = peer.stored;
   owner = peer.owner;
@@ -236,7 +250,7 @@ release_kept p peer (Ok node) handles given same = subst (λ hs. IsPeer (record 
     flight = λ other far. field_stays (λ h. h.flight) 0 unneeded_flight (λ m. refl) less_held (λ h. refl) (λ h. refl) node other p.handles.records peer.ok.rising ∙ peer.ok.flight other far;
     noticed = λ other. subst (λ b. count (is_notice_for other) p.mail.queue ≤ cond b 1 0) (sym (field_stays (λ h. h.notice) false unneeded_notice (λ m. refl) less_held (λ h. refl) (λ h. refl) node other p.handles.records peer.ok.rising)) (peer.ok.noticed other);
   };
-  room = room_records p.mail.queue (length p.nodes.nodes) p.handles.records p.mail.spare p.dead.room p.numbers peer.room (changed node less_held p.handles.records) (fewer_changed node less_held p.handles.records) (unnoticed_changed node less_held (λ h. refl) p.handles.records);
+  room = room_records p.mail.queue (length p.nodes.nodes) p.handles.records p.mail.spare p.dead.room p.dead.singles (count_at p.dead.stacks) peer.room (changed node less_held p.handles.records) (fewer_changed node less_held p.handles.records) (unnoticed_changed node less_held (λ h. refl) p.handles.records);
   contents = peer.contents;
   stored = peer.stored;
   owner = peer.owner;

@@ -30,6 +30,7 @@ use Rattle.b1_peer_pool.proofs.Found.{used_at-slice}
 use Rattle.b1_peer_pool.proofs.Fits.{full_reason-none, padded_len-within}
 use Rattle.b1_peer_pool.proofs.Holding.{length-padded, Holds-elsewhere}
 use Rattle.b1_peer_dead.specs.Dead.{DeadSeen}
+use Rattle.b1_peer_dead.specs.Buffers.{StackSeen, count_at, GainsOne}
 use Rattle.b1_inv_peer.specs.PeerOk.{is_message, begins_at, AreOk, IsRoom, MessageOk, SliceOk}
 use Rattle.b1_inv_peer.specs.Changes.{Takes}
 use Rattle.b1_inv_peer.proofs.Entries.{all_put, slice_not_free}
@@ -46,18 +47,19 @@ Queue = List (Key × Entry)
 
 -- ---- more room
 
-room_grows : (queue : Queue) (made : ℕ) (handles : List HandleRecord) (spare items buffers more_spare more_items more_buffers : ℕ) → spare ≤ more_spare → items ≤ more_items → buffers ≤ more_buffers → IsRoom queue made handles spare items buffers → IsRoom queue made handles more_spare more_items more_buffers
-room_grows queue made handles spare items buffers more_spare more_items more_buffers one two three room = record {
+room_grows : (queue : Queue) (made : ℕ) (handles : List HandleRecord) (spare items singles more_spare more_items more_singles : ℕ) (sets more_sets : ℕ → ℕ) → spare ≤ more_spare → items ≤ more_items → singles ≤ more_singles → ((m : ℕ) → sets m ≤ more_sets m) → IsRoom queue made handles spare items singles sets → IsRoom queue made handles more_spare more_items more_singles more_sets
+room_grows queue made handles spare items singles more_spare more_items more_singles sets more_sets one two three four room = record {
   notices = (let old = room.notices in omega (arith, old, one));
   dead = (let old = room.dead in omega (arith, old, two));
-  numbers = (let old = room.numbers in omega (arith, old, three));
+  records = (let old = room.records in omega (arith, old, three));
+  messages = λ m. (let old = room.messages m in let le = four m in omega (arith, old, le));
 }
 
-pub more_kept : (p : Fields) → IsPeer p → (mail : Mail) (store : Stored) (dead : DeadSeen) (numbers : ℕ) → MoreRoom p.mail mail p.store store p.dead dead p.numbers numbers → IsPeer (record p { mail = mail; store = store; dead = dead; numbers = numbers })
-more_kept p peer mail store dead numbers more =
+pub more_kept : (p : Fields) → IsPeer p → (mail : Mail) (store : Stored) (dead : DeadSeen) → MoreRoom p.mail mail p.store store p.dead dead → IsPeer (record p { mail = mail; store = store; dead = dead })
+more_kept p peer mail store dead more =
     rw more.mail_same (record {
       ok = subst (λ ss. AreOk p.me p.nodes.nodes ss p.mail.queue p.handles.records) (sym more.slices) peer.ok;
-      room = room_grows p.mail.queue (length p.nodes.nodes) p.handles.records p.mail.spare p.dead.room p.numbers mail.spare dead.room numbers more.mail_more more.dead_more more.numbers_more peer.room;
+      room = room_grows p.mail.queue (length p.nodes.nodes) p.handles.records p.mail.spare p.dead.room p.dead.singles mail.spare dead.room dead.singles (count_at p.dead.stacks) (count_at dead.stacks) more.mail_more more.dead_more more.singles_more more.sets_more peer.room;
       contents = λ f h. subst (λ bytes. ContentOk bytes f) (sym more.bytes) (peer.contents f h);
       stored = more.stored;
       owner = peer.owner;
@@ -96,9 +98,9 @@ stage_entry origin user index serial offset payload carries = Message origin use
 pub odd_behind : (clock : ℕ) → clock % 2 ≡ 0 → is_odd (clock + 1) ≡ true
 odd_behind clock even = let one : (clock + 1) % 2 ≡ 1 = omega (arith, even) in rw one refl
 
-pub stage_kept : (p : Fields) → IsPeer p → (origin user index serial : ℕ) (payload : List ℕ) (carries : List NodeRef) (most : ℕ) (store : Stored) (offset : ℕ) →
+pub stage_kept : (p : Fields) → IsPeer p → (origin user index serial : ℕ) (payload : List ℕ) (carries : List NodeRef) (store : Stored) (offset : ℕ) (stacks : List StackSeen) →
     p.clock % 2 ≡ 0 → serial < length p.nodes.nodes → length payload ≤ MOST_PAYLOAD → length carries ≤ MOST_HANDLES → find (is_stage origin index) p.mail.queue ≡ None →
-    length p.nodes.nodes + length carries + length p.handles.records ≤ most → Enough most (length p.mail.queue) p.mail p.store p.dead p.numbers →
+    Enough (length p.nodes.nodes) (length p.handles.records) (length carries) (length p.mail.queue) p.mail p.store p.dead → GainsOne (length carries) p.dead.stacks stacks →
     full_reason p.store.slices (length payload) (length carries) ≡ None →
     offset ≡ taken_offset (slice_len (length payload) (length carries)) p.store.slices → store.slices ≡ taken (slice_len (length payload) (length carries)) p.store.slices →
     Holds offset store.bytes (padded payload) → SameElsewhere offset p.store.slices p.store.bytes store.bytes → IsStored store →
@@ -106,13 +108,17 @@ pub stage_kept : (p : Fields) → IsPeer p → (origin user index serial : ℕ) 
       mail = record p.mail { queue = put (stage_key p origin index) (stage_entry origin user index serial offset payload carries) p.mail.queue; spare = p.mail.spare - 1 };
       store = store;
       handles = record p.handles { records = expected (foreign p.me carries) p.handles.records };
+      dead = record p.dead { stacks = stacks };
     })
-stage_kept p peer origin user index serial payload carries most store offset even made short few unstaged most_is enough fits offset_is slices_are holds same stored = record {
+stage_kept p peer origin user index serial payload carries store offset stacks even made short few unstaged enough gains fits offset_is slices_are holds same stored = record {
   ok = message_staged p.me p.nodes.nodes p.store.slices p.mail.queue p.handles.records peer.ok (stage_key p origin index) origin user index serial offset payload carries store.slices (odd_behind p.clock even) made short few unstaged takes;
-  room = room_staged p.mail.queue (length p.nodes.nodes) p.handles.records p.mail.spare p.dead.room p.numbers peer.room (stage_key p origin index) (stage_entry origin user index serial offset payload carries) (foreign p.me carries) refl
-      (let a = places_most p.mail.queue (length p.nodes.nodes) in let b = unnoticed_most p.handles.records in let c = foreign_most p.me carries in let d = enough.notices in omega (arith, a, b, c, d, most_is))
-      (let a = count_most is_message p.mail.queue in let c = foreign_most p.me carries in let d = enough.items in omega (arith, a, c, d, most_is))
-      (let a = count_most is_message p.mail.queue in let d = enough.buffers in omega (arith, a, d));
+  room = room_staged p.mail.queue (length p.nodes.nodes) p.handles.records p.mail.spare p.dead.room p.dead.singles (count_at stacks)
+      (room_grows p.mail.queue (length p.nodes.nodes) p.handles.records p.mail.spare p.dead.room p.dead.singles p.mail.spare p.dead.room p.dead.singles (count_at p.dead.stacks) (count_at stacks) (omega arith) (omega arith) (omega arith) (λ m. (let gain = gains m in omega (arith, gain))) peer.room)
+      (stage_key p origin index) (stage_entry origin user index serial offset payload carries) (foreign p.me carries) refl
+      (let a = places_most p.mail.queue (length p.nodes.nodes) in let b = unnoticed_most p.handles.records in let c = foreign_most p.me carries in let d = enough.notices in omega (arith, a, b, c, d))
+      (let a = count_most is_message p.mail.queue in let c = foreign_most p.me carries in let d = enough.items in omega (arith, a, c, d))
+      (let c = foreign_most p.me carries in let d = enough.singles in omega (arith, c, d))
+      (λ m. (let old = peer.room.messages m in let gain = gains m in omega (arith, old, gain)));
   contents = all_put (ContentOk store.bytes) (stage_key p origin index) (stage_entry origin user index serial offset payload carries) p.mail.queue holds
       (λ f h. content_elsewhere offset p.me (length p.nodes.nodes) p.store.slices p.store.bytes store.bytes f same (peer.ok.messages f h) (peer.ok.sliced f h) (slice_not_free offset (slice_len (length payload) (length carries)) p.store.slices store.slices f takes (peer.ok.sliced f h)) (peer.contents f h));
   stored = stored;
@@ -209,23 +215,24 @@ draft_sound users k e origin user index serial offset payload carries is o i kno
     as_many (n ∷ rest) = let further = as_many rest in omega (arith, further)
 
 pub stage_done : (p : Fields) → IsPeer p → (s : PeerSeen) → seen_of p ≡ s → (origin user index serial : ℕ) (payload : List ℕ) (carries : List NodeRef) → StageNeeds s origin user index serial payload carries →
-    (mail new_mail : Mail) (store new_store : Stored) (dead : DeadSeen) (numbers : ℕ) → MoreRoom p.mail mail p.store store p.dead dead p.numbers numbers →
-    (most : ℕ) → length p.nodes.nodes + length carries + length p.handles.records ≤ most → Enough most (length p.mail.queue) mail store dead numbers →
+    (mail new_mail : Mail) (store new_store : Stored) (dead new_dead : DeadSeen) → MoreRoom p.mail mail p.store store p.dead dead →
+    Enough (length p.nodes.nodes) (length p.handles.records) (length carries) (length p.mail.queue) mail store dead → new_dead ≡ record dead { stacks = new_dead.stacks } → GainsOne (length carries) dead.stacks new_dead.stacks →
     (offset : ℕ) (entry : Entry) (handles : Handles) → entry ≡ stage_entry origin user index serial offset payload carries →
     new_mail ≡ record mail { queue = put (stage_key p origin index) entry mail.queue; spare = mail.spare - 1 } →
     handles ≡ record p.handles { records = expected (foreign p.me carries) p.handles.records } →
     offset ≡ taken_offset (slice_len (length payload) (length carries)) store.slices → new_store.slices ≡ taken (slice_len (length payload) (length carries)) store.slices →
     Holds offset new_store.bytes (padded payload) → SameElsewhere offset store.slices store.bytes new_store.bytes → IsStored new_store →
-    IsPeer (record p { mail = new_mail; store = new_store; handles = handles; dead = dead; numbers = numbers })
-stage_done p peer s is origin user index serial payload carries needs mail new_mail store new_store dead numbers more most most_is enough offset entry handles entry_are mail_is handles_are offset_is slices_are holds same stored =
+    IsPeer (record p { mail = new_mail; store = new_store; handles = handles; dead = new_dead })
+stage_done p peer s is origin user index serial payload carries needs mail new_mail store new_store dead new_dead more enough dead_is gains offset entry handles entry_are mail_is handles_are offset_is slices_are holds same stored =
     rw (mail_is, entry_are, handles_are)
-    (stage_kept (record p { mail = mail; store = store; dead = dead; numbers = numbers }) (more_kept p peer mail store dead numbers more) origin user index serial payload carries most new_store offset
+    (subst (λ (d : DeadSeen). IsPeer (record p { mail = record mail { queue = put (stage_key p origin index) (stage_entry origin user index serial offset payload carries) mail.queue; spare = mail.spare - 1 }; store = new_store; handles = record p.handles { records = expected (foreign p.me carries) p.handles.records }; dead = d })) (sym dead_is)
+    (stage_kept (record p { mail = mail; store = store; dead = dead }) (more_kept p peer mail store dead more) origin user index serial payload carries new_store offset new_dead.stacks
     mine.even mine.made mine.short mine.few
     (subst (λ m. find (is_stage origin index) m.queue ≡ None) (sym more.mail_same) mine.unstaged)
-    most_is
-    (subst (λ m. Enough most (length m.queue) mail store dead numbers) (sym more.mail_same) enough)
+    (subst (λ m. Enough (length p.nodes.nodes) (length p.handles.records) (length carries) (length m.queue) mail store dead) (sym more.mail_same) enough)
+    gains
     (subst (λ ss. full_reason ss (length payload) (length carries) ≡ None) (sym more.slices) (stage_fits (part_of p) user serial (length payload) (length carries) mine.accepted))
-    offset_is slices_are holds same stored)
+    offset_is slices_are holds same stored))
   where
     mine : StageNeeds (seen_of p) origin user index serial payload carries
     mine = subst (λ x. StageNeeds x origin user index serial payload carries) (sym is) needs

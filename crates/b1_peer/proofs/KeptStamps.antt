@@ -8,6 +8,7 @@ use Rattle.b1_model.specs.MachineParts.{NodePart, is_live, is_dying}
 use Rattle.b1_model.specs.MachineTables.{in_state, with_node, with_nodes}
 use Rattle.b1_step.specs.Rights.{Has}
 use Rattle.b1_nodes.specs.Nodes.{Nodes, node_in}
+use Rattle.b1_peer_dead.specs.Buffers.{count_at}
 use Rattle.b1_inv_peer.specs.Needs.{AreDying}
 use Rattle.b1_inv_peer.specs.PeerOk.{IsRoom}
 use Rattle.b1_inv_peer.proofs.NodeEvents.{destroyed_ok}
@@ -35,7 +36,7 @@ stamp_kept p peer stamp doomed nodes mid dying mid_is nodes_are =
           destroyed_ok stamp doomed p.me p.nodes.nodes p.store.slices p.mail.queue p.handles.records
           (λ s h. not_live (node_in p.nodes.nodes s).state (all_has (λ r. (r < length p.nodes.nodes) × (is_dying (node_in p.nodes.nodes r).state ≡ true)) doomed dying s h).1)
           peer.ok;
-      room = subst (λ n. IsRoom p.mail.queue n p.handles.records p.mail.spare p.dead.room p.numbers) (sym (as_many doomed (in_state (Destroyed stamp)) p.nodes.nodes)) peer.room;
+      room = subst (λ n. IsRoom p.mail.queue n p.handles.records p.mail.spare p.dead.room p.dead.singles (count_at p.dead.stacks)) (sym (as_many doomed (in_state (Destroyed stamp)) p.nodes.nodes)) peer.room;
       contents = peer.contents;
       stored = peer.stored;
       owner = peer.owner;

@@ -10,6 +10,7 @@ use Rattle.b1_model.specs.MachineDestroy.{notice_by, visited_from, visited}
 use Rattle.b1_step.specs.Ordered.{NewKey}
 use Rattle.b1_handles.specs.Handles.{Handles, needs_notice}
 use Rattle.b1_peer_queue.specs.Mail.{Mail}
+use Rattle.b1_peer_dead.specs.Buffers.{count_at}
 use Rattle.b1_inv_peer.specs.Needs.{VisitsAnew}
 use Rattle.b1_inv_peer.proofs.Entries.{all_put}
 use Rattle.b1_inv_peer.proofs.CommitEvents.{foreign_notice_put}
@@ -45,14 +46,14 @@ module _ (p : Fields) (peer : IsPeer p) (index : ℕ) (node : NodeRef) (needs : 
       by false e = refl
 
   pub visit_spare : 0 < p.mail.spare
-  visit_spare = room_for_foreign p.mail.queue (length p.nodes.nodes) p.handles.records p.mail.spare p.dead.room p.numbers peer.room key node index needs
+  visit_spare = room_for_foreign p.mail.queue (length p.nodes.nodes) p.handles.records p.mail.spare p.dead.room p.dead.singles (count_at p.dead.stacks) peer.room key node index needs
 
   pub visit_noticed : IsPeer (after p (notified_by true p.clock index node (visiting p)))
   visit_noticed =
       let there = found (record_of node p.handles.records) refl needs in
       record {
         ok = foreign_notice_put p.me p.nodes.nodes p.store.slices p.mail.queue p.handles.records peer.ok key node index there.0 there.1 there.2;
-        room = room_foreign_put p.mail.queue (length p.nodes.nodes) p.handles.records p.mail.spare p.dead.room p.numbers peer.room key node index needs;
+        room = room_foreign_put p.mail.queue (length p.nodes.nodes) p.handles.records p.mail.spare p.dead.room p.dead.singles (count_at p.dead.stacks) peer.room key node index needs;
         contents = all_put (ContentOk p.store.bytes) key (ForeignNotice node index) p.mail.queue tt peer.contents;
         stored = peer.stored;
         owner = peer.owner;

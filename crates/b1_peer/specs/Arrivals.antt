@@ -14,6 +14,7 @@ use Rattle.b1_nodes.specs.Nodes.{Nodes}
 use Rattle.b1_peer_pool.specs.Content.{Holds, padded, padded_len}
 use Rattle.b1_peer_pool.specs.Slices.{is_queued, len_at}
 use Rattle.b1_peer_pool.specs.Stored.{Stored, IsStored}
+use Rattle.b1_peer_dead.specs.Buffers.{count_at}
 use Rattle.b1_peer_dead.specs.Dead.{DeadSeen}
 use Rattle.b1_peer_carried.specs.Carry.{AreCarried, HasTables, may_arrive}
 use Rattle.b1_peer.specs.declared.receive.Delivery.{Delivery}
@@ -24,7 +25,7 @@ pub record HasArrived (x : PeerPart) (key : Key) (number offset : ℕ) (nodes : 
   pub part_is : (slots_arrived x nodes slots).part ≡ record x { handles = table.records; given = table.given }
   pub dead_is : new_dead ≡ with_item (slots_arrived x nodes slots).refs old_dead
 
--- a message may arrive: its slice is long enough for the numbers of its handles and begins with its payload, neither payload nor nodes are too many, its slots may come in, and there is room for its references
+-- a message may arrive: its slice is long enough for the numbers of its handles and begins with its payload, neither payload nor nodes are too many, its slots may come in, and there is room for its references, and its buffers are there
 pub record CanArrive (me : ℕ) (nodes : Nodes) (store : Stored) (table : Handles) (dead : DeadSeen) (m : Delivery) : Type 0 where
   pub stored : IsStored store
   pub queued : IsTrue (is_queued m.offset store.slices)
@@ -35,6 +36,7 @@ pub record CanArrive (me : ℕ) (nodes : Nodes) (store : Stored) (table : Handle
   pub may : All (λ one. may_arrive me (length nodes.nodes) one ≡ true) (zip m.with.now m.slots.now)
   pub carried : AreCarried (foreign me m.with.now) table.records
   pub room : 1 ≤ dead.room
+  pub set : 1 ≤ count_at dead.stacks (length m.with.now)
 
 -- it has arrived at every part that has these tables
 abbrev pub Arrives : ℕ → Nodes → Handles → DeadSeen → Delivery → Receipt → Handles → DeadSeen → Type 0

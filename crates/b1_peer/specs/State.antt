@@ -11,11 +11,12 @@ use Rattle.b1_handles.specs.Handles.{Handles}
 use Rattle.b1_peer_queue.specs.Mail.{Mail}
 use Rattle.b1_peer_pool.specs.Content.{Holds, padded}
 use Rattle.b1_peer_pool.specs.Stored.{Stored, IsStored}
+use Rattle.b1_peer_dead.specs.Buffers.{count_at}
 use Rattle.b1_peer_dead.specs.Dead.{DeadSeen}
 use Rattle.b1_inv_peer.specs.PeerOk.{PeerOk, HasRoom}
 use Rattle.b1_peer.specs.Seen.{PeerSeen}
 
--- what a peer is made of; `numbers` is how many buffers for received numbers there are
+-- what a peer is made of
 pub record Fields : Type 0 where
   pub me : ℕ
   pub peers : ℕ
@@ -26,7 +27,6 @@ pub record Fields : Type 0 where
   pub nodes : Nodes
   pub handles : Handles
   pub dead : DeadSeen
-  pub numbers : ℕ
 
 -- the part of the state that they are
 abbrev pub part_of : Fields → PeerPart
@@ -61,7 +61,7 @@ ContentOk bytes (k, ReleaseNotice serial) = Unit {0}
 -- the part is right by itself, there is room for what events put, and the parts agree
 pub record IsPeer (p : Fields) : Type 0 where
   pub ok : PeerOk (part_of p)
-  pub room : HasRoom (part_of p) p.mail.spare p.dead.room p.numbers
+  pub room : HasRoom (part_of p) p.mail.spare p.dead.room p.dead.singles (count_at p.dead.stacks)
   pub contents : (f : Key × Entry) → Has p.mail.queue f → ContentOk p.store.bytes f
   pub stored : IsStored p.store
   pub owner : p.nodes.owner ≡ p.me

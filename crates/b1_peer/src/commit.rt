@@ -18,7 +18,13 @@ impl<Q: QueueKind, P: PoolKind> PeerState<Q, P> {
         ensures { self.new ≡ record self.old { part = unstaged self.old.part origin index } }
     {
         if let Some((_, entry)) = self.mail.take_stage(origin, index) {
-            take_back(&mut self.store, &mut self.handles, self.me, entry);
+            take_back(
+                &mut self.store,
+                &mut self.handles,
+                &mut self.dead,
+                self.me,
+                entry,
+            );
         }
     }
 

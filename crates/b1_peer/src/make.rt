@@ -10,7 +10,7 @@ use crate::state::PeerState;
 use b1_handles::HandleTable;
 use b1_model::{NodeRef, Opening};
 use b1_nodes::NodeTable;
-use b1_peer_dead::{DeadList, Stock};
+use b1_peer_dead::DeadList;
 use b1_peer_pool::Store;
 use b1_peer_queue::Mailbox;
 use b1_pool::PoolKind;
@@ -58,8 +58,7 @@ impl<Q: QueueKind, P: PoolKind> PeerState<Q, P> {
             store: Store::make(alloc, spec.pool)?,
             nodes: NodeTable::make(alloc, me, peers)?,
             handles: HandleTable::make(alloc),
-            dead: DeadList::make(alloc),
-            numbers: Stock::make(alloc),
+            dead: DeadList::make(alloc)?,
             alloc,
         })
     }
@@ -132,15 +131,18 @@ impl<Q: QueueKind, P: PoolKind> PeerState<Q, P> {
         ensures { OnOk result (self.new
             ≡ record self.old { part = with_wire_held node self.old.part }) }
     {
-        let most = self.nodes.len() as usize + 1;
-        let Some(most) = most.checked_add(self.handles.len()) else {
+        let Some(records) = self.handles.len().checked_add(1) else {
             return Err(AllocError);
         };
-        let Some(items) = most.checked_add(self.mail.len()) else {
+        let Some(most) = records.checked_add(self.nodes.len() as usize) else {
+            return Err(AllocError);
+        };
+        let Some(items) = records.checked_add(self.mail.len()) else {
             return Err(AllocError);
         };
         self.mail.reserve(most)?;
         self.dead.reserve(items)?;
+        self.dead.reserve_singles(records)?;
         self.handles.wire(node)?;
         Ok(())
     }

@@ -1,10 +1,11 @@
 //! A message arrives at its receiver.
 
-ghost use Rattle.std.specs.Prelude.{◌≡◌, ◌+◌, ◌<◌, ◌≤◌, ◌^◌, [], All, vec_capacity, Ok};
+ghost use Rattle.std.specs.Prelude.{◌≡◌, ◌+◌, ◌<◌, ◌≤◌, ◌^◌, All, length, Ok};
 ghost use Rattle.b1_model.specs.declared.answers.Receipt.TheVariants as receipts;
 ghost use Rattle.b1_model.specs.MachinePool.{published};
 ghost use Rattle.b1_peer_pool.specs.Content.{SameElsewhere};
 ghost use Rattle.b1_peer_pool.specs.Stored.{IsStored};
+ghost use Rattle.b1_peer_dead.specs.Buffers.{LosesOne};
 ghost use Rattle.b1_peer_carried.specs.Carry.{may_arrive};
 ghost use Rattle.b1_peer.specs.Answers.{IsDelivered};
 ghost use Rattle.b1_peer.specs.Arrivals.{Arrives, CanArrive};
@@ -13,11 +14,11 @@ use b1_handles::HandleTable;
 use b1_model::{Bytes, Key, MOST_HANDLES, MOST_PAYLOAD, NodeRef, Nums, Receipt, Slot};
 use b1_nodes::NodeTable;
 use b1_peer_carried::arrive;
-use b1_peer_dead::DeadList;
+use b1_peer_dead::{Buffers, DeadList};
 use b1_peer_pool::{Store, padded_length};
 use b1_pool::PoolKind;
 
-/// A message that was taken from the queue, and a buffer for the numbers of its handles.
+/// A message that was taken from the queue.
 #[derive(Drop)]
 pub struct Delivery<'a> {
     /// Its key.
@@ -32,12 +33,10 @@ pub struct Delivery<'a> {
     pub slots: &'a [Slot],
     /// Its payload.
     pub payload: Bytes,
-    /// An empty buffer.
-    pub numbers: Vec<u64>,
 }
 
 /// The receipt of a message: its slots arrive, its slice is published with the handles' numbers, and the references that
-/// are given up at once come on the dead list.
+/// are given up at once come on the dead list. The message's buffers go.
 pub fn receive<P: PoolKind>(
     store: &mut Store<P>,
     handles: &mut HandleTable,
@@ -46,8 +45,6 @@ pub fn receive<P: PoolKind>(
     me: u32,
     delivery: Delivery<'_>,
 ) -> Receipt
-    requires empty { delivery.numbers.items ≡ [] }
-    requires capacity { MOST_HANDLES ≤ vec_capacity delivery.numbers }
     requires may_arrive { CanArrive me nodes.now store.old handles.old dead.old delivery }
     requires fits { All (λ h. h.held < 2 ^ 62) handles.old.records }
     requires numbered { handles.old.given + MOST_HANDLES < 2 ^ 60 }
@@ -60,6 +57,8 @@ pub fn receive<P: PoolKind>(
         store.new.bytes }
     ensures delivered { IsDelivered store.new.bytes (Ok result) }
     ensures room { dead.old.room ≤ dead.new.room + 1 }
+    ensures singles { dead.old.singles ≤ dead.new.singles }
+    ensures loses { LosesOne (length delivery.entry.with.now) dead.old.stacks dead.new.stacks }
 {
     let Delivery {
         key,
@@ -68,9 +67,11 @@ pub fn receive<P: PoolKind>(
         with,
         slots,
         payload,
-        mut numbers,
     } = delivery;
-    let mut refs = dead.buffer();
+    let Buffers {
+        mut refs,
+        mut numbers,
+    } = dead.take_set(with.len());
     arrive(handles, me, nodes, with, slots, &mut numbers, &mut refs);
     let at = padded_length(payload.len() as u32);
     store.publish(offset, at, &numbers);

@@ -162,7 +162,6 @@ impl<Q: QueueKind, P: PoolKind> PeerState<Q, P> {
         else {
             unreachable!()
         };
-        let numbers = self.numbers.take();
         receive(
             &mut self.store,
             &mut self.handles,
@@ -176,7 +175,6 @@ impl<Q: QueueKind, P: PoolKind> PeerState<Q, P> {
                 with: with.as_slice(),
                 slots: slots.as_slice(),
                 payload,
-                numbers,
             },
         )
     }

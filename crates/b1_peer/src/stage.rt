@@ -4,6 +4,7 @@ ghost use Rattle.b1_model.specs.declared.entries.Entry.TheVariants.{Message};
 ghost use Rattle.b1_model.specs.declared.parts.Slot.TheVariants.{Unattached};
 ghost use Rattle.b1_model.specs.MachineSend.{find_stage, stage_refusal};
 ghost use Rattle.b1_step.specs.Ordered.{NewKey};
+ghost use Rattle.b1_peer_dead.specs.Buffers.{AreEmpty};
 ghost use Rattle.b1_peer.specs.Seen.{KeepsReceived};
 ghost use Rattle.b1_peer.specs.Answers.{Stages};
 ghost use Rattle.b1_inv_peer.specs.Needs.{IsClock};
@@ -15,6 +16,7 @@ use b1_model::{
     Reason, Slot, Slots,
 };
 use b1_peer_carried::expect_all;
+use b1_peer_dead::Buffers;
 use b1_pool::PoolKind;
 use b1_queue::QueueKind;
 use std::alloc::{AllocError, Global};
@@ -165,11 +167,20 @@ impl<Q: QueueKind, P: PoolKind> PeerState<Q, P> {
         let Ok(draft) = copy_draft(self.alloc, origin, user, index, serial, payload, with) else {
             return Err(Reason::Memory);
         };
-        self.admit(draft, payload, with)
+        let Ok(set) = Buffers::make(self.alloc, with.len()) else {
+            return Err(Reason::Memory);
+        };
+        self.admit(draft, set, payload, with)
     }
 
-    /// Puts a message that isn't refused into the queue, with its slice and what it carries.
-    fn admit(&mut self, draft: Draft, payload: &[u8], with: &[NodeRef]) -> Result<u64, Reason>
+    /// Puts a message that isn't refused into the queue, with its slice, what it carries, and the buffers for its arrival.
+    fn admit(
+        &mut self,
+        draft: Draft,
+        set: Buffers,
+        payload: &[u8],
+        with: &[NodeRef],
+    ) -> Result<u64, Reason>
         requires clock { IsClock self.old.part.clock }
         requires made { draft.serial < length self.old.part.nodes }
         requires user { list_any (λ u. u == draft.user) self.old.users ≡ true }
@@ -188,27 +199,26 @@ impl<Q: QueueKind, P: PoolKind> PeerState<Q, P> {
         requires with_is { draft.with ≡ with.now }
         requires slots_are { draft.slots ≡ map (λ node. Unattached) with.now }
         requires handles_are { draft.handles ≡ [] }
+        requires set_is { AreEmpty (length with.now) set }
         ensures stages { Stages self.old.part draft.origin draft.user draft.index draft.serial
             payload.now with.now result self.new.part }
         ensures received { KeepsReceived self.old self.new }
         ensures users { self.new.users ≡ self.old.users }
     {
-        let most = self.nodes.len() as usize + with.len();
-        let Some(most) = most.checked_add(self.handles.len()) else {
-            return Err(Reason::Memory);
-        };
         let Ok(()) = make_room(
             &mut self.mail,
             &mut self.store,
             &mut self.dead,
-            &mut self.numbers,
-            most,
+            self.nodes.len() as usize,
+            self.handles.len(),
+            with.len(),
         ) else {
             return Err(Reason::Memory);
         };
         let Ok(()) = expect_all(&mut self.handles, self.me, with) else {
             return Err(Reason::Memory);
         };
+        self.dead.put_set(with.len(), set);
         let offset = self.store.put(payload, with.len() as u32);
         let key = Key {
             stamp: self.clock + 1,

@@ -1,6 +1,6 @@
 use b1_handles::HandleTable;
 use b1_nodes::NodeTable;
-use b1_peer_dead::{DeadList, Stock};
+use b1_peer_dead::DeadList;
 use b1_peer_pool::Store;
 use b1_peer_queue::Mailbox;
 use b1_pool::PoolKind;
@@ -21,7 +21,6 @@ pub struct PeerState<Q: QueueKind, P: PoolKind> {
     pub(crate) nodes: NodeTable,
     pub(crate) handles: HandleTable,
     pub(crate) dead: DeadList,
-    pub(crate) numbers: Stock<u64>,
     pub(crate) alloc: Global,
 }
 
@@ -41,7 +40,6 @@ impl<Q: QueueKind, P: PoolKind> Model for PeerState<Q, P> {
       nodes = p.nodes;
       handles = p.handles;
       dead = p.dead;
-      numbers = p.numbers;
     }) };
 
     ghost invariant = { λ p. IsPeer (record {
@@ -54,6 +52,5 @@ impl<Q: QueueKind, P: PoolKind> Model for PeerState<Q, P> {
       nodes = p.nodes;
       handles = p.handles;
       dead = p.dead;
-      numbers = p.numbers;
     }) };
 }

@@ -7,9 +7,11 @@ use b1_handles::HandleTable;
 use b1_peer_dead::DeadList;
 
 /// Gives up every record. The held nodes come on the dead list, each as an item with how often it was held, by rising
-/// numbers. There must be room for as many items as there are records. The numbers that were given stay counted.
+/// numbers. There must be room for as many items as there are records, and as many buffers for one reference. The numbers
+/// that were given stay counted.
 pub fn give_up_all(handles: &mut HandleTable, dead: &mut DeadList)
-    requires { length handles.old.records ≤ dead.old.room }
+    requires room { length handles.old.records ≤ dead.old.room }
+    requires singles { length handles.old.records ≤ dead.old.singles }
     ensures handles { handles.new ≡ record handles.old { records = [] } }
     ensures items { dead.new.items ≡ dead.old.items
         ++ held_items handles.old.given handles.old.records }

@@ -1,29 +1,42 @@
 //! Changes of a list of empty buffers, and of what is put into them.
 
-ghost use Rattle.std.specs.Prelude.{◌≡◌, ◌+◌, ◌++◌, ◌∷◌, [], ◌<◌, ◌≤◌, All, filter_map, length, max, zip, OnOk, vec_len};
+ghost use Rattle.std.specs.Prelude.{◌≡◌, ◌+◌, ◌++◌, ◌∷◌, [], ◌<◌, ◌≤◌, All, filter_map, length, zip, IfOk, OnOk, vec_len};
 ghost use Rattle.std.specs.Vec.{vec_capacity};
 ghost use Rattle.b1_model.specs.MachineReceive.{reference_of};
+ghost use Rattle.b1_peer_dead.specs.Buffers.{AreSized};
 
+use crate::stack::Stack;
 use b1_model::{MOST_HANDLES, NodeRef, Slot};
 use std::alloc::{AllocError, Global};
 
-/// Makes empty buffers, each with room for `MOST_HANDLES` values at least, until there are `n` of them. An error is want of memory, and leaves at least what was there.
-pub fn add_buffers<T: Drop>(
-    buffers: &mut Vec<Vec<T>>,
+/// Makes empty buffers, each with room for one reference, until there are `n` of them. An error is want of memory, and
+/// leaves at least what was there.
+pub fn add_singles(
+    singles: &mut Vec<Vec<(NodeRef, u64)>>,
     alloc: Global,
     n: usize,
 ) -> Result<(), AllocError>
-    requires { All (λ b. (b.items ≡ []) × (MOST_HANDLES ≤ vec_capacity b)) buffers.old.items }
-    ensures empty { All (λ b. (b.items ≡ []) × (MOST_HANDLES ≤ vec_capacity b)) buffers.new.items }
-    ensures enough { OnOk result (n ≤ vec_len buffers.new) }
-    ensures more { vec_len buffers.old ≤ vec_len buffers.new }
-    ensures no_more { vec_len buffers.new ≤ max (vec_len buffers.old) n }
-    ensures capacity { vec_capacity buffers.old ≤ vec_capacity buffers.new }
+    requires { All (λ b. (b.items ≡ []) × (1 ≤ vec_capacity b)) singles.old.items }
+    ensures empty { All (λ b. (b.items ≡ []) × (1 ≤ vec_capacity b)) singles.new.items }
+    ensures enough { OnOk result (n ≤ vec_len singles.new) }
+    ensures more { vec_len singles.old ≤ vec_len singles.new }
 {
-    while buffers.len() < n {
-        buffers.push(Vec::with_capacity(alloc, MOST_HANDLES)?)?;
+    while singles.len() < n {
+        singles.push(Vec::with_capacity(alloc, 1)?)?;
     }
     Ok(())
+}
+
+/// A stack of no buffers for each number of values up to `MOST_HANDLES`. An error is want of memory.
+pub fn make_stacks(alloc: Global) -> Result<Vec<Stack>, AllocError>
+    ensures len { IfOk result (λ stacks. length stacks.items ≡ MOST_HANDLES + 1) }
+    ensures sized { IfOk result (λ stacks. AreSized stacks.items) }
+{
+    let mut stacks = Vec::new(alloc);
+    while stacks.len() <= MOST_HANDLES {
+        stacks.push(Stack::make(alloc, stacks.len()))?;
+    }
+    Ok(stacks)
 }
 
 /// Puts a value behind the others of a list that has room for it.

@@ -3,8 +3,8 @@
 
 mod buffers;
 mod dead;
-mod stock;
+mod stack;
 
 pub use buffers::put_last;
 pub use dead::DeadList;
-pub use stock::Stock;
+pub use stack::Buffers;

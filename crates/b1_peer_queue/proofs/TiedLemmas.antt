@@ -84,7 +84,7 @@ module _ {spare len qs qr : ℕ} {listed : List (Key × ℕ)} {table : Table} {c
           | inr is ↦ rw is (sym same ∙ sym (filter_without_entry key place (λ e. is_marked (row slots e)) listed order.ascending (new_listed table.slots key listed new) (ap is_marked at ∙ is)))
         ]
 
-    pub tied_put : (s r : ℕ) → 0 < spare → s + 1 ≡ table.spare → r ≡ table.room → (qs' qr' : ℕ) → qs' + 1 ≡ qs → qr' ≡ qr → (listed' : List (Key × ℕ)) → listed' ≡ with_entry key place listed → (capacity' : ℕ) → capacity' ≡ capacity → (marks' : List (Key × ℕ)) → marks' ≡ (if is_marked (key, entry) then with_entry key place marks else marks) → (names' : Names) → IsNamed (spare - 1) (with_entry key place listed) slots r names' → IsTied (spare - 1) (len + 1) qs' qr' listed' (record { slots = slots; spare = s; room = r }) capacity' marks' names'
+    pub tied_put : (s r : ℕ) → 0 < spare → s + 1 ≡ table.spare → r ≡ table.room → (qs' qr' : ℕ) → qs' + 1 ≡ qs → qr' ≡ qr → (listed' : List (Key × ℕ)) → listed' ≡ with_entry key place listed → (capacity' : ℕ) → capacity ≤ capacity' → (marks' : List (Key × ℕ)) → marks' ≡ (if is_marked (key, entry) then with_entry key place marks else marks) → (names' : Names) → IsNamed (spare - 1) (with_entry key place listed) slots r names' → IsTied (spare - 1) (len + 1) qs' qr' listed' (record { slots = slots; spare = s; room = r }) capacity' marks' names'
     tied_put s r some spare_is room_is qs' qr' qs_is qr_is listed' listed_is capacity' capacity_is marks' marks_are names' naming =
         let up = new_listed table.slots key listed new in
         record {
@@ -161,7 +161,7 @@ module _ {spare len qs qr : ℕ} {listed : List (Key × ℕ)} {table : Table} {c
         let shorter = length-without key place listed order.distinct there in
         omega (arith, fewer, shorter, tied.counted, tied.marks_fit)
 
-    pub tied_restamped : (qs' qr' : ℕ) → qs' ≡ qs → qr' ≡ qr → (listed' : List (Key × ℕ)) → listed' ≡ restamped place new listed → (capacity' : ℕ) → capacity' ≡ capacity → (marks' : List (Key × ℕ)) → marks' ≡ (if is_marked (row table.slots (new, place)) then with_entry new place (without_place place marks) else without_place place marks) → (names' : Names) → IsNamed spare (restamped place new listed) table.slots table.room names' → IsTied spare len qs' qr' listed' table capacity' marks' names'
+    pub tied_restamped : (qs' qr' : ℕ) → qs' ≡ qs → qr' ≡ qr → (listed' : List (Key × ℕ)) → listed' ≡ restamped place new listed → (capacity' : ℕ) → capacity ≤ capacity' → (marks' : List (Key × ℕ)) → marks' ≡ (if is_marked (row table.slots (new, place)) then with_entry new place (without_place place marks) else without_place place marks) → (names' : Names) → IsNamed spare (restamped place new listed) table.slots table.room names' → IsTied spare len qs' qr' listed' table capacity' marks' names'
     tied_restamped qs' qr' qs_is qr_is listed' listed_is capacity' capacity_is marks' marks_are names' naming =
         let shorter = length-without key place listed order.distinct there in
         record {

@@ -1,4 +1,5 @@
-ghost use Rattle.std.specs.Prelude.{◌≡◌, ◌≢◌, ◌≤◌, ℕ, ◌+◌, length, find, is_some, vec_capacity, true, false, if◌then◌else◌};
+ghost use Rattle.std.specs.Prelude.{◌≡◌, ◌≢◌, ◌≤◌, ℕ, ◌+◌, length, find, is_some, true, false, if◌then◌else◌};
+ghost use Rattle.std.specs.VecDeque.{deque_capacity};
 ghost use Rattle.std.specs.Option.{IfSome};
 ghost use Rattle.b1_model.specs.MachineParts.{is_odd};
 ghost use Rattle.b1_model.specs.MachineTables.{is_stage};
@@ -22,7 +23,7 @@ use b1_queue::QueueKind;
 fn restamp_in<Q: QueueKind>(rows: &mut Rows<Q>, key: Key, place: usize, new: Key)
     requires tied { IsTied rows.old.spare rows.old.len (Q.spare rows.old.queue)
         (Q.room rows.old.queue) (Q.listed rows.old.queue) rows.old.entries
-        (vec_capacity rows.old.marks) rows.old.marks.items rows.old.names }
+        (deque_capacity rows.old.marks) rows.old.marks.items rows.old.names }
     requires there { Has (Q.listed rows.old.queue) (key, place) }
     requires new_key { NewKey new (shown rows.old.entries.slots (Q.listed rows.old.queue)) }
     requires staged { is_odd key.stamp ≡ true }
@@ -30,7 +31,7 @@ fn restamp_in<Q: QueueKind>(rows: &mut Rows<Q>, key: Key, place: usize, new: Key
     requires same_index { new.index ≡ key.index }
     ensures tied { IsTied rows.new.spare rows.new.len (Q.spare rows.new.queue)
         (Q.room rows.new.queue) (Q.listed rows.new.queue) rows.new.entries
-        (vec_capacity rows.new.marks) rows.new.marks.items rows.new.names }
+        (deque_capacity rows.new.marks) rows.new.marks.items rows.new.names }
     ensures listed { Q.listed rows.new.queue ≡ restamped place new (Q.listed rows.old.queue) }
     ensures slots { rows.new.entries.slots ≡ rows.old.entries.slots }
     ensures spare { rows.new.spare ≡ rows.old.spare }
@@ -48,12 +49,12 @@ fn restamp_in<Q: QueueKind>(rows: &mut Rows<Q>, key: Key, place: usize, new: Key
 fn set_slots_at<Q: QueueKind>(rows: &mut Rows<Q>, key: Key, place: usize, slots: &[Slot])
     requires tied { IsTied rows.old.spare rows.old.len (Q.spare rows.old.queue)
         (Q.room rows.old.queue) (Q.listed rows.old.queue) rows.old.entries
-        (vec_capacity rows.old.marks) rows.old.marks.items rows.old.names }
+        (deque_capacity rows.old.marks) rows.old.marks.items rows.old.names }
     requires there { Has (Q.listed rows.old.queue) (key, place) }
     requires fits { HasSlots (length slots.now) (row rows.old.entries.slots (key, place)).1 }
     ensures tied { IsTied rows.new.spare rows.new.len (Q.spare rows.new.queue)
         (Q.room rows.new.queue) (Q.listed rows.new.queue) rows.new.entries
-        (vec_capacity rows.new.marks) rows.new.marks.items rows.new.names }
+        (deque_capacity rows.new.marks) rows.new.marks.items rows.new.names }
     ensures listed { Q.listed rows.new.queue ≡ Q.listed rows.old.queue }
     ensures here { row rows.new.entries.slots (key, place)
         ≡ (key, with_slots slots.now (row rows.old.entries.slots (key, place)).1) }
@@ -76,7 +77,7 @@ pub fn commit_in<Q: QueueKind>(
 ) -> bool
     requires tied { IsTied rows.old.spare rows.old.len (Q.spare rows.old.queue)
         (Q.room rows.old.queue) (Q.listed rows.old.queue) rows.old.entries
-        (vec_capacity rows.old.marks) rows.old.marks.items rows.old.names }
+        (deque_capacity rows.old.marks) rows.old.marks.items rows.old.names }
     requires one { count (is_stage origin index)
         (shown rows.old.entries.slots (Q.listed rows.old.queue))
         ≤ 1 }
@@ -92,7 +93,7 @@ pub fn commit_in<Q: QueueKind>(
         }) (shown rows.old.entries.slots (Q.listed rows.old.queue))) }
     ensures tied { IsTied rows.new.spare rows.new.len (Q.spare rows.new.queue)
         (Q.room rows.new.queue) (Q.listed rows.new.queue) rows.new.entries
-        (vec_capacity rows.new.marks) rows.new.marks.items rows.new.names }
+        (deque_capacity rows.new.marks) rows.new.marks.items rows.new.names }
     ensures found { result ≡ is_some
         (find (is_stage origin index) (shown rows.old.entries.slots (Q.listed rows.old.queue))) }
     ensures shows { shown rows.new.entries.slots (Q.listed rows.new.queue)
@@ -113,7 +114,7 @@ pub fn commit_in<Q: QueueKind>(
 fn restamp_first<Q: QueueKind>(rows: &mut Rows<Q>, origin: u32, stamp: u64) -> bool
     requires tied { IsTied rows.old.spare rows.old.len (Q.spare rows.old.queue)
         (Q.room rows.old.queue) (Q.listed rows.old.queue) rows.old.entries
-        (vec_capacity rows.old.marks) rows.old.marks.items rows.old.names }
+        (deque_capacity rows.old.marks) rows.old.marks.items rows.old.names }
     requires even { is_odd stamp ≡ false }
     requires distinct { DistinctIndexes
         (staged_notices origin (shown rows.old.entries.slots (Q.listed rows.old.queue))) }
@@ -122,7 +123,7 @@ fn restamp_first<Q: QueueKind>(rows: &mut Rows<Q>, origin: u32, stamp: u64) -> b
         (shown rows.old.entries.slots (Q.listed rows.old.queue)) }
     ensures tied { IsTied rows.new.spare rows.new.len (Q.spare rows.new.queue)
         (Q.room rows.new.queue) (Q.listed rows.new.queue) rows.new.entries
-        (vec_capacity rows.new.marks) rows.new.marks.items rows.new.names }
+        (deque_capacity rows.new.marks) rows.new.marks.items rows.new.names }
     ensures distinct { DistinctIndexes
         (staged_notices origin (shown rows.new.entries.slots (Q.listed rows.new.queue))) }
     ensures new_keys { NewUnder stamp
@@ -152,7 +153,7 @@ fn restamp_first<Q: QueueKind>(rows: &mut Rows<Q>, origin: u32, stamp: u64) -> b
 pub fn commit_notices_in<Q: QueueKind>(rows: &mut Rows<Q>, origin: u32, stamp: u64)
     requires tied { IsTied rows.old.spare rows.old.len (Q.spare rows.old.queue)
         (Q.room rows.old.queue) (Q.listed rows.old.queue) rows.old.entries
-        (vec_capacity rows.old.marks) rows.old.marks.items rows.old.names }
+        (deque_capacity rows.old.marks) rows.old.marks.items rows.old.names }
     requires even { is_odd stamp ≡ false }
     requires distinct { DistinctIndexes
         (staged_notices origin (shown rows.old.entries.slots (Q.listed rows.old.queue))) }
@@ -161,7 +162,7 @@ pub fn commit_notices_in<Q: QueueKind>(rows: &mut Rows<Q>, origin: u32, stamp: u
         (shown rows.old.entries.slots (Q.listed rows.old.queue)) }
     ensures tied { IsTied rows.new.spare rows.new.len (Q.spare rows.new.queue)
         (Q.room rows.new.queue) (Q.listed rows.new.queue) rows.new.entries
-        (vec_capacity rows.new.marks) rows.new.marks.items rows.new.names }
+        (deque_capacity rows.new.marks) rows.new.marks.items rows.new.names }
     ensures shows { shown rows.new.entries.slots (Q.listed rows.new.queue)
         ≡ notices_queue origin stamp (shown rows.old.entries.slots (Q.listed rows.old.queue)) }
     ensures ascending { Ascending (shown rows.new.entries.slots (Q.listed rows.new.queue)) }

@@ -21,7 +21,8 @@ use std::marker::Model;
 ///
 /// A staged message, or a release notice, is found in a time of log n; then the names on the shorter side of its own, and
 /// what the queue of kind `Q` moves, move by one. `commit_notices` goes through the keys of the staged notices, up to the
-/// driver's first, once for each notice of the driver's. The other calls take what `Q` takes.
+/// driver's first, once for each notice of the driver's, and moves those on the shorter side of it by one. The other calls
+/// take what `Q` takes.
 #[derive(Drop)]
 pub struct Mailbox<Q: QueueKind> {
     shelf: Shelf<Q>,

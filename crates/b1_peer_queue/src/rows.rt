@@ -1,4 +1,5 @@
-ghost use Rattle.std.specs.Prelude.{◌≡◌, ◌≤◌, ◌+◌, ◌<◌, [], Some, find, drop, is_some, OnOk, OnErr, slice_get, option_map, if◌then◌else◌, vec_capacity};
+ghost use Rattle.std.specs.Prelude.{◌≡◌, ◌≤◌, ◌+◌, ◌<◌, [], Some, find, drop, is_some, OnOk, OnErr, slice_get, option_map, if◌then◌else◌};
+ghost use Rattle.std.specs.VecDeque.{deque_capacity};
 ghost use Rattle.std.specs.Option.{IfSome};
 ghost use Rattle.b1_model.specs.MachineTables.{put as with_entry, without, is_stage, is_staged_notice as is_notice_of};
 ghost use Rattle.b1_model.specs.MachineParts.{is_release_notice};
@@ -15,6 +16,7 @@ use b1_entry::EntryTable;
 use b1_model::{Entry, Key};
 use b1_queue::QueueKind;
 use std::alloc::{AllocError, Global};
+use std::collections::VecDeque;
 
 /// A queue of places, the entries at them, and where those stand that are looked for.
 #[derive(Drop)]
@@ -24,7 +26,7 @@ pub struct Rows<Q: QueueKind> {
     /// The entries.
     pub entries: EntryTable,
     /// The keys and places of staged notices, in the queue's order.
-    pub marks: Vec<(Key, usize)>,
+    pub marks: VecDeque<(Key, usize)>,
     /// The places of staged messages and of release notices, by their names.
     pub names: NameIndex,
     /// How many entries there are.
@@ -37,14 +39,14 @@ pub struct Rows<Q: QueueKind> {
 pub fn make_rows<Q: QueueKind>(alloc: Global) -> Rows<Q>
     ensures tied { IsTied result.spare result.len (Q.spare result.queue) (Q.room result.queue)
         (Q.listed result.queue) result.entries
-        (vec_capacity result.marks) result.marks.items result.names }
+        (deque_capacity result.marks) result.marks.items result.names }
     ensures listed { Q.listed result.queue ≡ [] }
     ensures spare { result.spare ≡ 0 }
 {
     Rows {
         queue: Q::make(alloc),
         entries: EntryTable::make(alloc),
-        marks: Vec::new(alloc),
+        marks: VecDeque::new(alloc),
         names: NameIndex::make(alloc),
         len: 0,
         spare: 0,
@@ -55,10 +57,10 @@ pub fn make_rows<Q: QueueKind>(alloc: Global) -> Rows<Q>
 pub fn reserve_rows<Q: QueueKind>(rows: &mut Rows<Q>, n: usize) -> Result<(), AllocError>
     requires { IsTied rows.old.spare rows.old.len (Q.spare rows.old.queue) (Q.room rows.old.queue)
         (Q.listed rows.old.queue) rows.old.entries
-        (vec_capacity rows.old.marks) rows.old.marks.items rows.old.names }
+        (deque_capacity rows.old.marks) rows.old.marks.items rows.old.names }
     ensures tied { IsTied rows.new.spare rows.new.len (Q.spare rows.new.queue)
         (Q.room rows.new.queue) (Q.listed rows.new.queue) rows.new.entries
-        (vec_capacity rows.new.marks) rows.new.marks.items rows.new.names }
+        (deque_capacity rows.new.marks) rows.new.marks.items rows.new.names }
     ensures shows { shown rows.new.entries.slots (Q.listed rows.new.queue)
         ≡ shown rows.old.entries.slots (Q.listed rows.old.queue) }
     ensures enough { OnOk result (n ≤ rows.new.spare) }
@@ -89,14 +91,14 @@ pub fn reserve_rows<Q: QueueKind>(rows: &mut Rows<Q>, n: usize) -> Result<(), Al
 pub fn put_in<Q: QueueKind>(rows: &mut Rows<Q>, key: Key, entry: Entry)
     requires tied { IsTied rows.old.spare rows.old.len (Q.spare rows.old.queue)
         (Q.room rows.old.queue) (Q.listed rows.old.queue) rows.old.entries
-        (vec_capacity rows.old.marks) rows.old.marks.items rows.old.names }
+        (deque_capacity rows.old.marks) rows.old.marks.items rows.old.names }
     requires spare { 0 < rows.old.spare }
     requires new_key { NewKey key (shown rows.old.entries.slots (Q.listed rows.old.queue)) }
     requires new_name { IsNewName key entry
         (shown rows.old.entries.slots (Q.listed rows.old.queue)) }
     ensures tied { IsTied rows.new.spare rows.new.len (Q.spare rows.new.queue)
         (Q.room rows.new.queue) (Q.listed rows.new.queue) rows.new.entries
-        (vec_capacity rows.new.marks) rows.new.marks.items rows.new.names }
+        (deque_capacity rows.new.marks) rows.new.marks.items rows.new.names }
     ensures shows { shown rows.new.entries.slots (Q.listed rows.new.queue)
         ≡ with_entry key entry (shown rows.old.entries.slots (Q.listed rows.old.queue)) }
     ensures spare { rows.new.spare + 1 ≡ rows.old.spare }
@@ -115,11 +117,11 @@ pub fn put_in<Q: QueueKind>(rows: &mut Rows<Q>, key: Key, entry: Entry)
 fn lift_out<Q: QueueKind>(rows: &mut Rows<Q>, key: Key, place: usize) -> Entry
     requires tied { IsTied rows.old.spare rows.old.len (Q.spare rows.old.queue)
         (Q.room rows.old.queue) (Q.listed rows.old.queue) rows.old.entries
-        (vec_capacity rows.old.marks) rows.old.marks.items rows.old.names }
+        (deque_capacity rows.old.marks) rows.old.marks.items rows.old.names }
     requires there { Has (Q.listed rows.old.queue) (key, place) }
     ensures tied { IsTied rows.new.spare rows.new.len (Q.spare rows.new.queue)
         (Q.room rows.new.queue) (Q.listed rows.new.queue) rows.new.entries
-        (vec_capacity rows.new.marks) rows.new.marks.items rows.new.names }
+        (deque_capacity rows.new.marks) rows.new.marks.items rows.new.names }
     ensures entry { (key, result) ≡ row rows.old.entries.slots (key, place) }
     ensures shows { shown rows.new.entries.slots (Q.listed rows.new.queue)
         ≡ shown rows.old.entries.slots (without_place place (Q.listed rows.old.queue)) }
@@ -140,7 +142,7 @@ fn lift_out<Q: QueueKind>(rows: &mut Rows<Q>, key: Key, place: usize) -> Entry
 fn named_at<Q: QueueKind>(rows: &Rows<Q>, wanted: Wanted, name: Key) -> Option<(Key, usize)>
     requires tied { IsTied rows.now.spare rows.now.len (Q.spare rows.now.queue)
         (Q.room rows.now.queue) (Q.listed rows.now.queue) rows.now.entries
-        (vec_capacity rows.now.marks) rows.now.marks.items rows.now.names }
+        (deque_capacity rows.now.marks) rows.now.marks.items rows.now.names }
     requires name { name_looked_for wanted ≡ Some name }
     ensures { result ≡ find (λ e.
         passes wanted (row rows.now.entries.slots e)) (Q.listed rows.now.queue) }
@@ -154,7 +156,7 @@ fn named_at<Q: QueueKind>(rows: &Rows<Q>, wanted: Wanted, name: Key) -> Option<(
 fn stage_at<Q: QueueKind>(rows: &Rows<Q>, origin: u32, index: u32) -> Option<(Key, usize)>
     requires { IsTied rows.now.spare rows.now.len (Q.spare rows.now.queue) (Q.room rows.now.queue)
         (Q.listed rows.now.queue) rows.now.entries
-        (vec_capacity rows.now.marks) rows.now.marks.items rows.now.names }
+        (deque_capacity rows.now.marks) rows.now.marks.items rows.now.names }
     ensures { result ≡ find (λ e.
         is_stage origin index (row rows.now.entries.slots e)) (Q.listed rows.now.queue) }
 {
@@ -169,7 +171,7 @@ fn stage_at<Q: QueueKind>(rows: &Rows<Q>, origin: u32, index: u32) -> Option<(Ke
 fn release_at<Q: QueueKind>(rows: &Rows<Q>, serial: u32) -> Option<(Key, usize)>
     requires { IsTied rows.now.spare rows.now.len (Q.spare rows.now.queue) (Q.room rows.now.queue)
         (Q.listed rows.now.queue) rows.now.entries
-        (vec_capacity rows.now.marks) rows.now.marks.items rows.now.names }
+        (deque_capacity rows.now.marks) rows.now.marks.items rows.now.names }
     ensures { result ≡ find (λ e.
         is_release_notice serial (row rows.now.entries.slots e)) (Q.listed rows.now.queue) }
 {
@@ -180,7 +182,7 @@ fn release_at<Q: QueueKind>(rows: &Rows<Q>, serial: u32) -> Option<(Key, usize)>
 fn notice_at<Q: QueueKind>(rows: &Rows<Q>, origin: u32) -> Option<(Key, usize)>
     requires { IsTied rows.now.spare rows.now.len (Q.spare rows.now.queue) (Q.room rows.now.queue)
         (Q.listed rows.now.queue) rows.now.entries
-        (vec_capacity rows.now.marks) rows.now.marks.items rows.now.names }
+        (deque_capacity rows.now.marks) rows.now.marks.items rows.now.names }
     ensures { result ≡ find (λ e.
         is_notice_of origin (row rows.now.entries.slots e)) (Q.listed rows.now.queue) }
 {
@@ -191,7 +193,7 @@ fn notice_at<Q: QueueKind>(rows: &Rows<Q>, origin: u32) -> Option<(Key, usize)>
 pub fn wanted_at<Q: QueueKind>(rows: &Rows<Q>, wanted: Wanted) -> Option<(Key, usize)>
     requires { IsTied rows.now.spare rows.now.len (Q.spare rows.now.queue) (Q.room rows.now.queue)
         (Q.listed rows.now.queue) rows.now.entries
-        (vec_capacity rows.now.marks) rows.now.marks.items rows.now.names }
+        (deque_capacity rows.now.marks) rows.now.marks.items rows.now.names }
     ensures found { option_map (row rows.now.entries.slots) result
         ≡ find (passes wanted) (shown rows.now.entries.slots (Q.listed rows.now.queue)) }
     ensures there { IfSome result (λ e. Has (Q.listed rows.now.queue) e) }
@@ -209,12 +211,12 @@ pub fn wanted_at<Q: QueueKind>(rows: &Rows<Q>, wanted: Wanted) -> Option<(Key, u
 pub fn take_wanted_in<Q: QueueKind>(rows: &mut Rows<Q>, wanted: Wanted) -> Option<(Key, Entry)>
     requires tied { IsTied rows.old.spare rows.old.len (Q.spare rows.old.queue)
         (Q.room rows.old.queue) (Q.listed rows.old.queue) rows.old.entries
-        (vec_capacity rows.old.marks) rows.old.marks.items rows.old.names }
+        (deque_capacity rows.old.marks) rows.old.marks.items rows.old.names }
     requires one { count (passes wanted) (shown rows.old.entries.slots (Q.listed rows.old.queue))
         ≤ 1 }
     ensures tied { IsTied rows.new.spare rows.new.len (Q.spare rows.new.queue)
         (Q.room rows.new.queue) (Q.listed rows.new.queue) rows.new.entries
-        (vec_capacity rows.new.marks) rows.new.marks.items rows.new.names }
+        (deque_capacity rows.new.marks) rows.new.marks.items rows.new.names }
     ensures found { result ≡ find (passes wanted)
         (shown rows.old.entries.slots (Q.listed rows.old.queue)) }
     ensures shows { shown rows.new.entries.slots (Q.listed rows.new.queue)
@@ -229,7 +231,7 @@ pub fn take_wanted_in<Q: QueueKind>(rows: &mut Rows<Q>, wanted: Wanted) -> Optio
 pub fn front_in<Q: QueueKind>(rows: &Rows<Q>) -> Option<(Key, &Entry)>
     requires { IsTied rows.now.spare rows.now.len (Q.spare rows.now.queue) (Q.room rows.now.queue)
         (Q.listed rows.now.queue) rows.now.entries
-        (vec_capacity rows.now.marks) rows.now.marks.items rows.now.names }
+        (deque_capacity rows.now.marks) rows.now.marks.items rows.now.names }
     ensures { option_map (λ f. (f.0, f.1.now)) result
         ≡ slice_get (shown rows.now.entries.slots (Q.listed rows.now.queue)) 0 }
 {
@@ -244,10 +246,10 @@ pub fn front_in<Q: QueueKind>(rows: &Rows<Q>) -> Option<(Key, &Entry)>
 pub fn take_in<Q: QueueKind>(rows: &mut Rows<Q>) -> Option<(Key, Entry)>
     requires { IsTied rows.old.spare rows.old.len (Q.spare rows.old.queue) (Q.room rows.old.queue)
         (Q.listed rows.old.queue) rows.old.entries
-        (vec_capacity rows.old.marks) rows.old.marks.items rows.old.names }
+        (deque_capacity rows.old.marks) rows.old.marks.items rows.old.names }
     ensures tied { IsTied rows.new.spare rows.new.len (Q.spare rows.new.queue)
         (Q.room rows.new.queue) (Q.listed rows.new.queue) rows.new.entries
-        (vec_capacity rows.new.marks) rows.new.marks.items rows.new.names }
+        (deque_capacity rows.new.marks) rows.new.marks.items rows.new.names }
     ensures front { result ≡ slice_get (shown rows.old.entries.slots (Q.listed rows.old.queue)) 0 }
     ensures shows { shown rows.new.entries.slots (Q.listed rows.new.queue)
         ≡ drop 1 (shown rows.old.entries.slots (Q.listed rows.old.queue)) }

@@ -24,7 +24,7 @@ pub struct Shelf<Q: QueueKind> {
 }
 
 impl<Q: QueueKind> Model for Shelf<Q> {
-    ghost use Rattle.std.specs.Prelude.{vec_capacity};
+    ghost use Rattle.std.specs.VecDeque.{deque_capacity};
     ghost use Rattle.b1_peer_queue.specs.Rows.{Queued};
 
     ghost Value = { Queued };
@@ -38,7 +38,7 @@ impl<Q: QueueKind> Model for Shelf<Q> {
 
     ghost invariant = { λ s. IsTied s.rows.spare s.rows.len (Q.spare s.rows.queue)
         (Q.room s.rows.queue) (Q.listed s.rows.queue) s.rows.entries
-        (vec_capacity s.rows.marks) s.rows.marks.items s.rows.names };
+        (deque_capacity s.rows.marks) s.rows.marks.items s.rows.names };
 }
 
 impl<Q: QueueKind> Shelf<Q> {

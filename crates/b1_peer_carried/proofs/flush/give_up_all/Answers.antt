@@ -10,7 +10,8 @@ pub loop-node-init : goal.loop-node-init
 loop-node-init c = record {
   given = refl;
   items = refl;
-  enough = omega (arith, c.requires, held_items_few c.args.handles.now.given c.args.handles.now.records);
+  enough = omega (arith, c.requires.room, held_items_few c.args.handles.now.given c.args.handles.now.records);
+  singles = omega (arith, c.requires.singles, held_items_few c.args.handles.now.given c.args.handles.now.records);
   room = refl;
   lent = refl;
 }

@@ -7,6 +7,7 @@ invariant-loop-node l = record {
   given : l.handles.given ≡ l.fn.handles.given;
   items : l.dead.items ++ held_items l.handles.given l.handles.records ≡ l.fn.dead.items ++ held_items l.fn.handles.given l.fn.handles.records;
   enough : length (held_items l.handles.given l.handles.records) ≤ l.dead.room;
+  singles : length (held_items l.handles.given l.handles.records) ≤ l.dead.singles;
   room : l.dead.room + length l.dead.items ≡ l.fn.dead.room + length l.fn.dead.items;
   lent : l.dead.lent ≡ l.fn.dead.lent;
 }

@@ -45,7 +45,7 @@ name_at-requires g c = has_all (λ e. IsSome (entry_at c.args.rows.now.entries.s
 pub returns-then-is_none-clause-tied : goal.returns-then-is_none-clause-tied
 returns-then-is_none-clause-tied g c =
     let test : is_none (name_of (row c.args.rows.now.entries.slots (c.args.new, c.args.place))) ≡ true = search rules in
-    tied_restamped c.requires.tied (g.met.Q.QueueKind.in_order c.args.rows.now.queue) c.args.key c.args.place c.args.new c.requires.there c.requires.new_key _ _ c.restamp.ensures.spare c.restamp.ensures.room _ c.restamp.ensures.listed _ (c.mark_where.ensures.capacity ∙ c.unmark.ensures.capacity) _
+    tied_restamped c.requires.tied (g.met.Q.QueueKind.in_order c.args.rows.now.queue) c.args.key c.args.place c.args.new c.requires.there c.requires.new_key _ _ c.restamp.ensures.spare c.restamp.ensures.room _ c.restamp.ensures.listed _ (omega (arith, c.mark_where.ensures.capacity, c.unmark.ensures.capacity)) _
     (c.mark_where.ensures.marks
     ∙ ap (λ ms. if c.is_marked_at-marked.result then with_entry c.args.new c.args.place ms else ms) c.unmark.ensures.marks
     ∙ ap (λ b. if b then with_entry c.args.new c.args.place (without c.args.place c.args.rows.now.marks.items) else without c.args.place c.args.rows.now.marks.items) c.is_marked_at-marked.ensures)
@@ -54,7 +54,7 @@ returns-then-is_none-clause-tied g c =
 pub returns-else-is_none-clause-tied : goal.returns-else-is_none-clause-tied
 returns-else-is_none-clause-tied g c =
     let test : is_none (name_of (row c.args.rows.now.entries.slots (c.args.new, c.args.place))) ≡ false = search rules in
-    tied_restamped c.requires.tied (g.met.Q.QueueKind.in_order c.args.rows.now.queue) c.args.key c.args.place c.args.new c.requires.there c.requires.new_key _ _ c.restamp.ensures.spare c.restamp.ensures.room _ c.restamp.ensures.listed _ (c.mark_where.ensures.capacity ∙ c.unmark.ensures.capacity) _
+    tied_restamped c.requires.tied (g.met.Q.QueueKind.in_order c.args.rows.now.queue) c.args.key c.args.place c.args.new c.requires.there c.requires.new_key _ _ c.restamp.ensures.spare c.restamp.ensures.room _ c.restamp.ensures.listed _ (omega (arith, c.mark_where.ensures.capacity, c.unmark.ensures.capacity)) _
     (c.mark_where.ensures.marks
     ∙ ap (λ ms. if c.is_marked_at-marked.result then with_entry c.args.new c.args.place ms else ms) c.unmark.ensures.marks
     ∙ ap (λ b. if b then with_entry c.args.new c.args.place (without c.args.place c.args.rows.now.marks.items) else without c.args.place c.args.rows.now.marks.items) c.is_marked_at-marked.ensures)

@@ -6,10 +6,10 @@ use Rattle.b1_peer_queue.proofs.marks.place_of.Goals as goal
 
 pub returns-clause-before : goal.returns-clause-before
 returns-clause-before c =
-    (IsPartitionPoint-from_clause (λ e. is_before e.0 c.args.key.now) c.args.marks.now _ c.partition_point.ensures.partitioned
-    (searchable c.args.key.now c.args.marks.now c.requires) (λ a r f k. search rules)).0
+    (IsPartitionPoint-from_clause (λ e. is_before e.0 c.args.key.now) c.args.marks.now.items _ c.partition_point.ensures.partitioned
+    (searchable c.args.key.now c.args.marks.now.items c.requires) (λ a r f k. search rules)).0
 
 pub returns-clause-after : goal.returns-clause-after
 returns-clause-after c =
-    (IsPartitionPoint-from_clause (λ e. is_before e.0 c.args.key.now) c.args.marks.now _ c.partition_point.ensures.partitioned
-    (searchable c.args.key.now c.args.marks.now c.requires) (λ a r f k. search rules)).1
+    (IsPartitionPoint-from_clause (λ e. is_before e.0 c.args.key.now) c.args.marks.now.items _ c.partition_point.ensures.partitioned
+    (searchable c.args.key.now c.args.marks.now.items c.requires) (λ a r f k. search rules)).1
