@@ -1,6 +1,8 @@
-// What a source and a sink of bytes promise.
-ghost use Rattle.std.specs.Prelude.{◌≡◌, ◌<◌, ◌≤◌, ◌↔◌, ℕ, List, [], Option, length, take, IfOk, OnErr, IfSome};
+// What a source and a sink of bytes promise, and what takes the pieces that a source gives.
+ghost use Rattle.std.specs.Prelude.{◌≡◌, ◌<◌, ◌≤◌, ◌↔◌, ◌++◌, ℕ, List, [], Option, length, take, IfOk, OnErr, OnOk, IfSome};
 ghost use Rattle.b1_io.specs.Streams.{Rose, Gave, Took};
+
+use std::alloc::AllocError;
 
 /// A read or a write that failed.
 #[derive(Clone, Copy, Debug, PartialEq, Eq)]
@@ -47,4 +49,23 @@ pub trait Sink {
         ensures none { OnErr result (taken self.new ≡ taken self.old) }
         ensures fault { OnErr result (Rose (faults self.old) (faults self.new)) }
         ensures never_falls { faults self.old ≤ faults self.new };
+}
+
+/// What takes bytes that come in pieces.
+///
+/// `taken` is all that it has taken.
+pub trait Pieces {
+    ghost taken: { Self → List ℕ };
+
+    /// Takes a piece behind what it has taken before. An error is want of memory, and may leave anything.
+    fn take(&mut self, piece: &[u8]) -> Result<(), AllocError>
+        ensures { OnOk result (taken self.new ≡ taken self.old ++ piece.now) };
+}
+
+impl Pieces for Vec<u8> {
+    ghost taken = { λ v. v.items };
+
+    fn take(&mut self, piece: &[u8]) -> Result<(), AllocError> {
+        self.extend_from_slice(piece)
+    }
 }

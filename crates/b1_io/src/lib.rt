@@ -9,7 +9,7 @@ mod standard;
 mod tests;
 mod wholes;
 
-pub use ends::{Failed, Sink, Source};
+pub use ends::{Failed, Pieces, Sink, Source};
 pub use memory::{MemSink, MemSource};
 pub use standard::{StdSink, StdSource};
-pub use wholes::{NotAll, read_all, write_all};
+pub use wholes::{NotAll, read_all, read_into, write_all};
