@@ -1,4 +1,5 @@
-//! Changes of a list of slices and of the list of its free ones together, both in the order of their offsets.
+//! Changes of a list of slices and of the list of its free ones together, both in the order of their
+//! offsets.
 
 ghost use Rattle.std.specs.Prelude.{◌≡◌, ℕ, ◌+◌, ◌^◌, ◌<◌, ◌≤◌, IsTrue, filter, true, Some, is_ok, if◌then◌else◌};
 ghost use Rattle.std.specs.VecDeque.{deque_len, deque_capacity};
@@ -39,7 +40,8 @@ pub(crate) fn take(slices: &mut VecDeque<Slice>, free: &mut VecDeque<Slice>, s: 
     }
 }
 
-/// Joins the slice at a place with the one behind it, which stands at the place `at` among the free ones, if both are free.
+/// Joins the slice at a place with the one behind it, which stands at the place `at` among the free
+/// ones, if both are free.
 fn join(slices: &mut VecDeque<Slice>, free: &mut VecDeque<Slice>, i: usize, at: usize)
     requires within { i < deque_len slices.old }
     requires inside { total slices.old.items < 2 ^ 32 }
@@ -57,8 +59,8 @@ fn join(slices: &mut VecDeque<Slice>, free: &mut VecDeque<Slice>, i: usize, at: 
     }
 }
 
-/// Frees the slice in use at a place, and joins it with the one behind it, if that is free. The answer is its place among
-/// the free ones.
+/// Frees the slice in use at a place, and joins it with the one behind it, if that is free. The
+/// answer is its place among the free ones.
 fn free_at(slices: &mut VecDeque<Slice>, free: &mut VecDeque<Slice>, i: usize) -> usize
     requires rising { IsRising slices.old.items }
     requires within { i < deque_len slices.old }

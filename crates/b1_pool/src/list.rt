@@ -8,12 +8,12 @@ use std::alloc::Global;
 use std::collections::VecDeque;
 use std::marker::Model;
 
-/// A pool that keeps its slices in a list, in the order of their offsets, and beside it a list of the free ones in the same
-/// order.
+/// A pool that keeps its slices in a list, in the order of their offsets, and beside it a list of
+/// the free ones in the same order.
 ///
-/// A slice is found by its offset in a time of log n; `fits` and `alloc` look at all free slices. Where a slice is put into
-/// or taken out of a list, those on the shorter side of it move by one: none at either end. Only `make` and `reserve` take
-/// memory.
+/// A slice is found by its offset in a time of log n; `fits` and `alloc` look at all free slices.
+/// Where a slice is put into or taken out of a list, those on the shorter side of it move by one:
+/// none at either end. Only `make` and `reserve` take memory.
 #[derive(Drop)]
 pub struct ListPool {
     slices: VecDeque<Slice>,

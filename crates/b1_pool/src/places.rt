@@ -1,7 +1,7 @@
 //! Where slices stand in a pool's list of them, and changes of that list.
 //!
-//! A slice is found by its offset in a time of log n. Where one is put in or taken out, the slices on the shorter side of it
-//! move by one: none at either end.
+//! A slice is found by its offset in a time of log n. Where one is put in or taken out, the slices
+//! on the shorter side of it move by one: none at either end.
 
 ghost use Rattle.std.specs.Prelude.{◌≡◌, ℕ, ◌+◌, ◌<◌, ◌≤◌, ◌^◌, nat_lt, max, true, false, length, IsTrue, IfSome, IfNone, MatchOption, None, ◌&&◌};
 ghost use Rattle.std.specs.List.{AllWithin};
@@ -148,8 +148,8 @@ pub fn is_published_slice(s: &Slice) -> bool
     s.state == SliceState::Published
 }
 
-/// The least free slice that is at least `len` bytes long, the one at the lowest offset among equals. It looks at all of
-/// them.
+/// The least free slice that is at least `len` bytes long, the one at the lowest offset among
+/// equals. It looks at all of them.
 pub(crate) fn find_least(slices: &VecDeque<Slice>, len: u32) -> Option<Slice>
     ensures { result ≡ least_fit len slices.now.items }
 {
@@ -157,7 +157,8 @@ pub(crate) fn find_least(slices: &VecDeque<Slice>, len: u32) -> Option<Slice>
     least_with(back, len, least_with(front, len, None))
 }
 
-/// The lesser of the least slice before these and the least of these that is free and at least `len` bytes long.
+/// The lesser of the least slice before these and the least of these that is free and at least `len`
+/// bytes long.
 fn least_with(slices: &[Slice], len: u32, before: Option<Slice>) -> Option<Slice>
     ensures { result ≡ least_of before (least_fit len slices.now) }
 {
