@@ -1,12 +1,12 @@
-use Rattle.std.proofs.Common.{◌≡◌, ℕ, ◌+◌, ◌<◌, ◌≤◌, ◌==◌, nat_lt, Bool, true, false, ◌&&◌, ◌||◌, List, [], ◌∷◌, Option, Some, None, length, drop, get_or, refl, sym, ap, ◌∙◌, arith, inl, inr, ◌⊎◌}
-use Rattle.std.specs.Prelude.{is_some}
+use Rattle.std.proofs.Common.{◌≡◌, ℕ, ◌+◌, ◌<◌, ◌≤◌, ◌==◌, nat_lt, Bool, true, false, ◌&&◌, ◌||◌, max, List, [], ◌∷◌, ◌++◌, Option, Some, None, length, drop, get_or, refl, sym, ap, ◌∙◌, arith, inl, inr, ◌⊎◌}
+use Rattle.std.specs.Prelude.{is_some, filter}
 use Rattle.std.specs.List.{AllByRecursion as ByRecursion}
 use Rattle.std.proofs.lemmas.Bool.{cases_Bool, cond_both, false≢true}
 use Rattle.std.proofs.lemmas.Bool.Decides.{nat_tests}
 use Rattle.std.proofs.lemmas.List.{at_drop_more}
 use Rattle.b1_pool.specs.declared.slices.Slice.{Slice}
-use Rattle.b1_pool.specs.Slices.{is_fit, has_fit, is_before, lesser, lesser_of, least_fit, IsNotAfter}
-use Rattle.b1_pool.specs.Places.{so_far}
+use Rattle.b1_pool.specs.Slices.{is_free, is_fit, has_fit, is_before, lesser, lesser_of, least_fit, largest_free, IsNotAfter}
+use Rattle.b1_pool.specs.Places.{so_far, least_of}
 
 -- by length and then by offset, over numbers
 abbrev pub before : ℕ → ℕ → ℕ → ℕ → Bool
@@ -43,11 +43,6 @@ lesser_assoc a s t =
       ]
     ]
 
--- the lesser of the least so far and the least of what is left
-abbrev pub least_of : Option Slice → Option Slice → Option Slice
-least_of None t = t
-least_of (Some s) t = Some (lesser_of s t)
-
 pub least_of-none : (s : Option Slice) → least_of s None ≡ s
 least_of-none None = refl
 least_of-none (Some s) = refl
@@ -58,17 +53,59 @@ least_of-step (Some a) s None = refl
 least_of-step (Some a) s (Some t) = ap (λ x. Some x) (lesser_assoc a s t)
 
 -- one more slice that is long enough
-pub least_more : (len : ℕ) (xs : List Slice) (i : ℕ) (least : Option Slice) (d : Slice) → i < length xs → is_fit len (get_or xs i d) ≡ true → least_of least (least_fit len (drop i xs)) ≡ least_fit len xs → least_of (Some (so_far least (get_or xs i d))) (least_fit len (drop (i + 1) xs)) ≡ least_fit len xs
-least_more len xs i least d within fit so =
+pub least_more : (len : ℕ) (xs : List Slice) (i : ℕ) (least : Option Slice) (d : Slice) (all : Option Slice) → i < length xs → is_fit len (get_or xs i d) ≡ true → least_of least (least_fit len (drop i xs)) ≡ all → least_of (Some (so_far least (get_or xs i d))) (least_fit len (drop (i + 1) xs)) ≡ all
+least_more len xs i least d all within fit so =
     sym (least_of-step least (get_or xs i d) (least_fit len (drop (i + 1) xs)))
     ∙ ap (least_of least) (sym (at_drop_more (least_fit len) xs i d within ∙ rw fit refl))
     ∙ so
 
 -- one more slice that isn't
-pub least_passed : (len : ℕ) (xs : List Slice) (i : ℕ) (least : Option Slice) (d : Slice) → i < length xs → is_fit len (get_or xs i d) ≡ false → least_of least (least_fit len (drop i xs)) ≡ least_fit len xs → least_of least (least_fit len (drop (i + 1) xs)) ≡ least_fit len xs
-least_passed len xs i least d within unfit so =
+pub least_passed : (len : ℕ) (xs : List Slice) (i : ℕ) (least : Option Slice) (d : Slice) (all : Option Slice) → i < length xs → is_fit len (get_or xs i d) ≡ false → least_of least (least_fit len (drop i xs)) ≡ all → least_of least (least_fit len (drop (i + 1) xs)) ≡ all
+least_passed len xs i least d all within unfit so =
     ap (least_of least) (sym (at_drop_more (least_fit len) xs i d within ∙ rw unfit refl))
     ∙ so
+
+pub least_of_assoc : (a b c : Option Slice) → least_of (least_of a b) c ≡ least_of a (least_of b c)
+least_of_assoc None b c = refl
+least_of_assoc (Some a) None c = refl
+least_of_assoc (Some a) (Some b) None = refl
+least_of_assoc (Some a) (Some b) (Some c) = ap (λ x. Some x) (sym (lesser_assoc a b c))
+
+-- the least of two lists
+pub least_fit-append : (len : ℕ) (xs ys : List Slice) → least_fit len (xs ++ ys) ≡ least_of (least_fit len xs) (least_fit len ys)
+least_fit-append len [] ys = refl
+least_fit-append len (x ∷ xs) ys =
+    elim (cases_Bool (is_fit len x)) [
+      | inl fit ↦ rw (fit, least_fit-append len xs ys) (sym (least_of_assoc (Some x) (least_fit len xs) (least_fit len ys)))
+      | inr unfit ↦ rw unfit (least_fit-append len xs ys)
+    ]
+
+-- the greatest length of two lists
+pub largest_free-append : (xs ys : List Slice) → largest_free (xs ++ ys) ≡ max (largest_free xs) (largest_free ys)
+largest_free-append [] ys = omega arith
+largest_free-append (x ∷ xs) ys =
+    let ih = largest_free-append xs ys in
+    elim (cases_Bool (is_free x)) [
+      | inl free ↦ rw free (omega (arith, ih))
+      | inr used ↦ rw used ih
+    ]
+
+-- the least fit is a free slice
+pub least_fit-free : (len : ℕ) (xs : List Slice) → least_fit len (filter is_free xs) ≡ least_fit len xs
+least_fit-free len [] = refl
+least_fit-free len (x ∷ xs) =
+    elim (cases_Bool (is_free x)) [
+      | inl free ↦ rw (free, free, least_fit-free len xs) refl
+      | inr used ↦ rw used (least_fit-free len xs)
+    ]
+
+pub largest_free-free : (xs : List Slice) → largest_free (filter is_free xs) ≡ largest_free xs
+largest_free-free [] = refl
+largest_free-free (x ∷ xs) =
+    elim (cases_Bool (is_free x)) [
+      | inl free ↦ rw (free, free) (ap (λ n. max x.length n) (largest_free-free xs))
+      | inr used ↦ rw used (largest_free-free xs)
+    ]
 
 -- the slice is one of these
 abbrev pub Among : Slice → List Slice → Type 0

@@ -3,3 +3,5 @@ pub mod SliceLemmas
 pub mod FitLemmas
 pub mod PoolLemmas
 pub mod UsedLemmas
+pub mod OrderLemmas
+pub mod FreeLemmas

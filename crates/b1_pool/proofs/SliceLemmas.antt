@@ -194,7 +194,7 @@ starts_free-merged : (xs : List Slice) → starts_free (merged xs) ≡ starts_fr
 starts_free-merged [] = refl
 starts_free-merged (x ∷ xs) = starts_free-joined x (merged xs)
 
-joined_at-nil : (i : ℕ) → joined_at i [] ≡ []
+pub joined_at-nil : (i : ℕ) → joined_at i [] ≡ []
 joined_at-nil zero = refl
 joined_at-nil (suc i) = refl
 

@@ -1,7 +1,15 @@
-use Rattle.std.specs.Prelude.{◌≡◌, ◌≢◌, ℕ, zero, suc, ◌+◌, List, [], ◌∷◌, ◌++◌, true, Option, Some, None, take, drop, slice_get}
+use Rattle.std.specs.Prelude.{◌≡◌, ◌≢◌, ℕ, zero, suc, ◌+◌, ◌<◌, ◌≤◌, List, [], ◌∷◌, ◌++◌, true, false, Option, Some, None, length, take, drop, filter, slice_get, AllPairs}
 use Rattle.b1_pool.specs.declared.slices.Slice.{Slice}
 use Rattle.b1_pool.specs.declared.slices.SliceState.TheVariants.{Free}
-use Rattle.b1_pool.specs.Slices.{is_free, joined, lesser}
+use Rattle.b1_pool.specs.Slices.{IsPool, is_free, joined, lesser, lesser_of}
+
+-- the slices stand in the order of their offsets, and no two begin at the same one
+abbrev pub IsRising : List Slice → Type 0
+IsRising slices = AllPairs (λ s t. s.offset < t.offset) slices
+
+-- how many of the slices before a place in the list are free
+abbrev pub free_before : ℕ → List Slice → ℕ
+free_before place slices = length (filter is_free (take place slices))
 
 -- none of the slices begins at the offset
 abbrev pub NoneBegins : ℕ → List Slice → Type 0
@@ -46,3 +54,20 @@ pub record IsFreePair (slices : List Slice) (place : ℕ) (first second : Slice)
   pub second_at : slice_get slices (place + 1) ≡ Some second
   pub first_free : is_free first ≡ true
   pub second_free : is_free second ≡ true
+
+-- the lesser of the least slice so far and the least of others, if there are any
+abbrev pub least_of : Option Slice → Option Slice → Option Slice
+least_of None t = t
+least_of (Some s) t = Some (lesser_of s t)
+
+-- the slice at a place is in use
+pub record IsUsedAt (slices : List Slice) (place : ℕ) : Type 0 where
+  pub slice : Slice
+  pub found : slice_get slices place ≡ Some slice
+  pub used : is_free slice ≡ false
+
+-- what a pool keeps of its free slices: they are in the same order, and there is room for as many as it has slices
+pub record IsListed (size : ℕ) (slices free : List Slice) (room : ℕ) : Type 0 where
+  pub pool : IsPool size slices
+  pub listed : free ≡ filter is_free slices
+  pub room_for_all : length slices ≤ room

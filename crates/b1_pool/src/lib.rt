@@ -1,6 +1,7 @@
 //! A pool of bytes, cut into slices that are taken and given back.
 #![tactic(auto)]
 
+mod changes;
 mod kind;
 mod laws;
 mod list;

@@ -1,38 +1,42 @@
 //! A pool that keeps its slices in a list.
 
-ghost use Rattle.std.specs.Prelude.{◌+◌, ◌-◌, length, Some, vec_len};
-ghost use Rattle.std.specs.Vec.{vec_capacity};
-ghost use Rattle.b1_pool.specs.Slices.{IsPool};
-ghost use Rattle.b1_pool.specs.Bytes.{Shown};
-
+use crate::changes::{cancel, release, take};
 use crate::kind::{Full, Memory, NoSlice, PoolKind};
-use crate::places::{cancel_at, find_largest, find_least, publish_at, release_at, take_front};
+use crate::places::{find_largest, find_least, publish_at};
 use crate::slices::{Slice, SliceState};
 use std::alloc::Global;
+use std::collections::VecDeque;
 use std::marker::Model;
 
-/// A pool that keeps its slices in a list, in the order of their offsets.
+/// A pool that keeps its slices in a list, in the order of their offsets, and beside it a list of
+/// the free ones in the same order.
+///
+/// A slice is found by its offset in a time of log n; `fits` and `alloc` look at all free slices.
+/// Where a slice is put into or taken out of a list, those on the shorter side of it move by one:
+/// none at either end. Only `make` and `reserve` take memory.
 #[derive(Drop)]
 pub struct ListPool {
-    slices: Vec<Slice>,
+    slices: VecDeque<Slice>,
+    free: VecDeque<Slice>,
     bytes: Vec<u8>,
 }
 
 impl Model for ListPool {
-    ghost use Rattle.std.specs.Prelude.{◌-◌, length, vec_len};
-    ghost use Rattle.std.specs.Vec.{vec_capacity};
-    ghost use Rattle.b1_pool.specs.Slices.{IsPool};
+    ghost use Rattle.std.specs.Prelude.{◌-◌, length, min};
+    ghost use Rattle.std.specs.VecDeque.{deque_len, deque_capacity};
     ghost use Rattle.b1_pool.specs.Bytes.{Shown};
+    ghost use Rattle.b1_pool.specs.Places.{IsListed};
 
     ghost Value = { Shown };
 
     ghost view = { λ p. record {
       slices = p.slices.items;
       bytes = p.bytes.items;
-      spare = vec_capacity p.slices - vec_len p.slices;
+      spare = min (deque_capacity p.slices) (deque_capacity p.free) - deque_len p.slices;
     } };
 
-    ghost invariant = { λ p. IsPool (length p.bytes.items) p.slices.items };
+    ghost invariant = { λ p. IsListed (length p.bytes.items) p.slices.items p.free.items
+        (deque_capacity p.free) };
 }
 
 impl PoolKind for ListPool {
@@ -44,33 +48,41 @@ impl PoolKind for ListPool {
 
     fn make(alloc: Global, size: u32) -> Result<Self, Memory> {
         let bytes = Vec::from_elem(alloc, 0, size as usize)?;
-        let mut slices = Vec::new(alloc);
-        slices.push(Slice {
+        let whole = Slice {
             offset: 0,
             length: size,
             state: SliceState::Free,
-        })?;
-        Ok(ListPool { slices, bytes })
+        };
+        let mut slices = VecDeque::new(alloc);
+        slices.push_back(whole)?;
+        let mut free = VecDeque::new(alloc);
+        free.push_back(whole)?;
+        Ok(ListPool {
+            slices,
+            free,
+            bytes,
+        })
     }
 
     fn reserve(&mut self) -> Result<(), Memory> {
-        self.slices.reserve(1)
+        self.slices.reserve(1)?;
+        self.free.reserve(self.slices.len() + 1 - self.free.len())
     }
 
     fn fits(&self, len: u32) -> Result<(), Full> {
-        if find_least(&self.slices, len).is_some() {
+        if find_least(&self.free, len).is_some() {
             return Ok(());
         }
         Err(Full {
             asked: len,
-            largest: find_largest(&self.slices),
+            largest: find_largest(&self.free),
         })
     }
 
     fn alloc(&mut self, len: u32) -> u32 {
-        match find_least(&self.slices, len) {
+        match find_least(&self.free, len) {
             Some(s) => {
-                take_front(&mut self.slices, s.offset, len);
+                take(&mut self.slices, &mut self.free, s, len);
                 s.offset
             }
             None => unreachable!(),
@@ -87,11 +99,11 @@ impl PoolKind for ListPool {
     }
 
     fn cancel(&mut self, off: u32) {
-        cancel_at(&mut self.slices, off);
+        cancel(&mut self.slices, &mut self.free, off);
     }
 
     fn release(&mut self, off: u64) -> Result<(), NoSlice> {
-        release_at(&mut self.slices, off)
+        release(&mut self.slices, &mut self.free, off)
     }
 
     fn read(&self, off: u32, at: u32, out: &mut [u8]) {
@@ -100,11 +112,17 @@ impl PoolKind for ListPool {
     }
 
     fn clear(&mut self) {
-        self.slices.truncate(1);
-        self.slices[0] = Slice {
+        let whole = Slice {
             offset: 0,
             length: self.bytes.len() as u32,
             state: SliceState::Free,
         };
+        self.slices.truncate(1);
+        self.slices[0] = whole;
+        self.free.clear();
+        match self.free.insert(0, whole) {
+            Ok(()) => {}
+            Err(_) => unreachable!(),
+        }
     }
 }

@@ -1,32 +1,52 @@
 //! Where slices stand in a pool's list of them, and changes of that list.
+//!
+//! A slice is found by its offset in a time of log n. Where one is put in or taken out, the slices
+//! on the shorter side of it move by one: none at either end.
 
-ghost use Rattle.std.specs.Prelude.{◌≡◌, ℕ, ◌+◌, ◌-◌, ◌<◌, ◌≤◌, ◌^◌, length, IsTrue, IfSome, IfNone, Some, None, MatchOption, vec_len, is_ok, ◌&&◌, if◌then◌else◌};
-ghost use Rattle.std.specs.Vec.{vec_capacity};
-ghost use Rattle.b1_pool.specs.Slices.{slice_at, length_at, begins, is_free, is_fit, is_before, least_fit, largest_free, merged, whole, published, with_alloc, given_back, is_unpublished, is_published, IsMerged, IsPool, IsLength};
-ghost use Rattle.b1_pool.specs.Places.{IsPlace, total, joined_at, freed_at, so_far, IsFreePair};
+ghost use Rattle.std.specs.Prelude.{◌≡◌, ℕ, ◌+◌, ◌<◌, ◌≤◌, ◌^◌, nat_lt, max, true, false, length, IsTrue, IfSome, IfNone, MatchOption, None, ◌&&◌};
+ghost use Rattle.std.specs.List.{AllWithin};
+ghost use Rattle.std.specs.VecDeque.{deque_len, deque_capacity};
+ghost use Rattle.b1_pool.specs.Slices.{slice_at, length_at, begins, is_free, is_fit, is_before, least_fit, largest_free, whole, published, with_alloc, is_unpublished, is_published, IsPool, IsLength};
+ghost use Rattle.b1_pool.specs.Places.{IsPlace, IsRising, total, joined_at, so_far, least_of, IsFreePair};
 
-use crate::kind::NoSlice;
 use crate::slices::{Slice, SliceState};
+use std::collections::VecDeque;
+
+/// How many slices begin before an offset.
+pub fn count_before(slices: &VecDeque<Slice>, off: u64) -> usize
+    requires { IsRising slices.now.items }
+    ensures within { result ≤ length slices.now.items }
+    ensures before { AllWithin (λ s. nat_lt s.offset off ≡ true) slices.now.items 0 result }
+    ensures after { AllWithin (λ s. nat_lt s.offset off
+        ≡ false) slices.now.items result (length slices.now.items) }
+{
+    slices.partition_point(|s| u64::from(s.offset) < off)
+}
 
 /// Where in the list the slice stands that begins at an offset, and None where none begins there.
-pub fn place_of(slices: &[Slice], off: u64) -> Option<usize>
-    ensures { MatchOption result (slice_at off slices.now ≡ None) (IsPlace off slices.now) }
+pub fn place_of(slices: &VecDeque<Slice>, off: u64) -> Option<usize>
+    requires { IsRising slices.now.items }
+    ensures { MatchOption result (slice_at off slices.now.items ≡ None) (IsPlace off slices.now.items) }
 {
-    for (i, s) in slices.iter().enumerate() {
-        if u64::from(s.offset) == off {
-            return Some(i);
-        }
+    let i = count_before(slices, off);
+    let Some(s) = slices.get(i) else {
+        return None;
+    };
+    if u64::from(s.offset) == off {
+        Some(i)
+    } else {
+        None
     }
-    None
 }
 
 /// Publishes the unpublished slice that begins at an offset. All others stay as they are.
-pub fn publish_at(slices: &mut Vec<Slice>, off: u32)
-    requires { IsTrue (begins is_unpublished off slices.old.items) }
+pub fn publish_at(slices: &mut VecDeque<Slice>, off: u32)
+    requires rising { IsRising slices.old.items }
+    requires unpublished { IsTrue (begins is_unpublished off slices.old.items) }
     ensures slices { slices.new.items ≡ published off slices.old.items }
     ensures sound { (size : ℕ) → IsPool size slices.old.items → IsPool size slices.new.items }
-    ensures capacity { vec_capacity slices.new ≡ vec_capacity slices.old }
-    ensures len { vec_len slices.new ≡ vec_len slices.old }
+    ensures capacity { deque_capacity slices.new ≡ deque_capacity slices.old }
+    ensures len { deque_len slices.new ≡ deque_len slices.old }
 {
     if let Some(i) = place_of(slices, off.into()) {
         slices[i].state = SliceState::Published;
@@ -35,15 +55,16 @@ pub fn publish_at(slices: &mut Vec<Slice>, off: u32)
 
 /// Takes the front of the free slice that begins at an offset, `len` bytes of it. That front is then
 /// unpublished, and what is left behind it stays free. The list needs room for one slice more.
-pub fn take_front(slices: &mut Vec<Slice>, off: u32, len: u32)
-    requires room { vec_len slices.old < vec_capacity slices.old }
+pub fn take_front(slices: &mut VecDeque<Slice>, off: u32, len: u32)
+    requires rising { IsRising slices.old.items }
+    requires room { deque_len slices.old < deque_capacity slices.old }
     requires fit { IsTrue (begins (is_fit len) off slices.old.items) }
     requires len { IsLength len }
     requires inside { off + length_at off slices.old.items < 2 ^ 32 }
     ensures slices { slices.new.items ≡ with_alloc off len slices.old.items }
     ensures sound { (size : ℕ) → IsPool size slices.old.items → IsPool size slices.new.items }
-    ensures capacity { vec_capacity slices.new ≡ vec_capacity slices.old }
-    ensures len { vec_len slices.new ≤ vec_len slices.old + 1 }
+    ensures capacity { deque_capacity slices.old ≤ deque_capacity slices.new }
+    ensures len { deque_len slices.new ≤ deque_len slices.old + 1 }
 {
     if let Some(i) = place_of(slices, off.into()) {
         let s = slices[i];
@@ -88,17 +109,17 @@ pub struct Joined {
 
 /// Joins the slice at a place with the one behind it, if both are free. The answer is what was joined,
 /// and None where the list stays as it was.
-pub fn join_next(slices: &mut Vec<Slice>, i: usize) -> Option<Joined>
-    requires within { i < vec_len slices.old }
+pub fn join_next(slices: &mut VecDeque<Slice>, i: usize) -> Option<Joined>
+    requires within { i < deque_len slices.old }
     requires inside { total slices.old.items < 2 ^ 32 }
     ensures slices { slices.new.items ≡ joined_at i slices.old.items }
     ensures pair { IfSome result (λ p. IsFreePair slices.old.items i p.first p.second) }
     ensures both { IfSome result (λ p. p.both ≡ whole p.first p.second) }
     ensures none { IfNone result (slices.new.items ≡ slices.old.items) }
     ensures total { total slices.new.items ≡ total slices.old.items }
-    ensures capacity { vec_capacity slices.new ≡ vec_capacity slices.old }
-    ensures len { vec_len slices.new ≤ vec_len slices.old }
-    ensures within { i < vec_len slices.new }
+    ensures capacity { deque_capacity slices.new ≡ deque_capacity slices.old }
+    ensures len { deque_len slices.new ≤ deque_len slices.old }
+    ensures within { i < deque_len slices.new }
 {
     if i + 1 < slices.len() {
         let s = slices[i];
@@ -120,37 +141,6 @@ pub fn join_next(slices: &mut Vec<Slice>, i: usize) -> Option<Joined>
     None
 }
 
-/// Frees the slice at a place, and joins it with its free neighbours.
-pub(crate) fn give_back_at(slices: &mut Vec<Slice>, i: usize)
-    requires within { i < vec_len slices.old }
-    requires inside { total slices.old.items < 2 ^ 32 }
-    requires merged { IsMerged slices.old.items }
-    ensures slices { slices.new.items ≡ merged (freed_at i slices.old.items) }
-    ensures capacity { vec_capacity slices.new ≡ vec_capacity slices.old }
-    ensures len { vec_len slices.new ≤ vec_len slices.old }
-{
-    slices[i].state = SliceState::Free;
-    join_next(slices, i);
-    if i > 0 {
-        join_next(slices, i - 1);
-    }
-}
-
-/// Gives the unpublished slice back that begins at an offset.
-pub(crate) fn cancel_at(slices: &mut Vec<Slice>, off: u32)
-    requires unpublished { IsTrue (begins is_unpublished off slices.old.items) }
-    requires inside { total slices.old.items < 2 ^ 32 }
-    requires merged { IsMerged slices.old.items }
-    ensures slices { slices.new.items ≡ given_back off slices.old.items }
-    ensures sound { (size : ℕ) → IsPool size slices.old.items → IsPool size slices.new.items }
-    ensures capacity { vec_capacity slices.new ≡ vec_capacity slices.old }
-    ensures len { vec_len slices.new ≤ vec_len slices.old }
-{
-    if let Some(i) = place_of(slices, off.into()) {
-        give_back_at(slices, i);
-    }
-}
-
 /// Whether a slice is in use and published.
 pub fn is_published_slice(s: &Slice) -> bool
     ensures { result ≡ is_published s.now }
@@ -158,32 +148,21 @@ pub fn is_published_slice(s: &Slice) -> bool
     s.state == SliceState::Published
 }
 
-/// Gives the published slice back that begins at an offset, if there is one.
-pub(crate) fn release_at(slices: &mut Vec<Slice>, off: u64) -> Result<(), NoSlice>
-    requires inside { total slices.old.items < 2 ^ 32 }
-    requires merged { IsMerged slices.old.items }
-    ensures ok { is_ok result ≡ begins is_published off slices.old.items }
-    ensures slices { slices.new.items
-        ≡ (if is_ok result then given_back off slices.old.items else slices.old.items) }
-    ensures sound { (size : ℕ) → IsPool size slices.old.items → IsPool size slices.new.items }
-    ensures capacity { vec_capacity slices.new ≡ vec_capacity slices.old }
-    ensures len { vec_len slices.new ≤ vec_len slices.old }
+/// The least free slice that is at least `len` bytes long, the one at the lowest offset among
+/// equals. It looks at all of them.
+pub(crate) fn find_least(slices: &VecDeque<Slice>, len: u32) -> Option<Slice>
+    ensures { result ≡ least_fit len slices.now.items }
 {
-    let Some(i) = place_of(slices, off) else {
-        return Err(NoSlice);
-    };
-    if !is_published_slice(&slices[i]) {
-        return Err(NoSlice);
-    }
-    give_back_at(slices, i);
-    Ok(())
+    let (front, back) = slices.as_slices();
+    least_with(back, len, least_with(front, len, None))
 }
 
-/// The least free slice that is at least `len` bytes long, the one at the lowest offset among equals.
-pub(crate) fn find_least(slices: &[Slice], len: u32) -> Option<Slice>
-    ensures { result ≡ least_fit len slices.now }
+/// The lesser of the least slice before these and the least of these that is free and at least `len`
+/// bytes long.
+fn least_with(slices: &[Slice], len: u32, before: Option<Slice>) -> Option<Slice>
+    ensures { result ≡ least_of before (least_fit len slices.now) }
 {
-    let mut least = None;
+    let mut least = before;
     for s in slices {
         if is_long_enough(s, len) {
             least = Some(lesser_so_far(least, *s));
@@ -216,11 +195,19 @@ pub fn comes_before(s: &Slice, t: &Slice) -> bool
     s.length < t.length || (s.length == t.length && s.offset < t.offset)
 }
 
-/// The greatest length of a free slice, 0 where none is free.
-pub(crate) fn find_largest(slices: &[Slice]) -> u32
-    ensures { result ≡ largest_free slices.now }
+/// The greatest length of a free slice, 0 where none is free. It looks at all slices.
+pub(crate) fn find_largest(slices: &VecDeque<Slice>) -> u32
+    ensures { result ≡ largest_free slices.now.items }
 {
-    let mut largest = 0;
+    let (front, back) = slices.as_slices();
+    largest_with(back, largest_with(front, 0))
+}
+
+/// The greater of a length and the greatest length of a free slice.
+fn largest_with(slices: &[Slice], before: u32) -> u32
+    ensures { result ≡ max before (largest_free slices.now) }
+{
+    let mut largest = before;
     for s in slices {
         if s.state == SliceState::Free && largest < s.length {
             largest = s.length;

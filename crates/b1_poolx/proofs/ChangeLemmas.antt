@@ -8,10 +8,10 @@ use Rattle.b1_pool.specs.declared.slices.SliceState.TheVariants.{Free, Unpublish
 use Rattle.b1_pool.specs.Slices.{is_free, is_before, lesser_of, least_fit, largest_free, begins, is_unpublished, slice_at, rest_of, published, with_alloc, whole}
 use Rattle.b1_pool.specs.Places.{joined_at, freed_at, IsFreePair}
 use Rattle.b1_pool.proofs.FitLemmas.{before-true, before-false}
-use Rattle.b1_pool.specs.Places.{IsPlace}
+use Rattle.b1_pool.specs.Places.{IsPlace, IsUsedAt}
 use Rattle.b1_pool.proofs.SliceLemmas.{set-freed_at, begins-found}
 use Rattle.b1_pool.proofs.PoolLemmas.{begins-place, unpublished_is_used}
-use Rattle.b1_poolx.specs.Sizes.{free_count, placed, without, by_size, NoneBefore, IsBySize, first_long, last_length, IsUsedAt}
+use Rattle.b1_poolx.specs.Sizes.{free_count, placed, without, by_size, NoneBefore, IsBySize, first_long, last_length}
 use Rattle.b1_poolx.proofs.SizeLemmas.{before_asym, not_after_before, not_after_lengths, NoneBefore-trans, IsBySize-by_size, IsBySize-placed, without-placed}
 
 free_state : (s : Slice) → is_free s ≡ true → s.state ≡ Free

@@ -1,4 +1,4 @@
-use Rattle.std.specs.Prelude.{◌≡◌, ℕ, ◌≤◌, Bool, true, false, nat_le, nat_lt, if◌then◌else◌, List, [], ◌∷◌, Option, Some, None, length, filter, slice_get}
+use Rattle.std.specs.Prelude.{◌≡◌, ℕ, ◌≤◌, Bool, true, false, nat_le, nat_lt, if◌then◌else◌, List, [], ◌∷◌, Option, Some, None, length, filter}
 use Rattle.b1_pool.specs.declared.slices.Slice.{Slice}
 use Rattle.b1_pool.specs.Slices.{IsPool, is_free, is_before}
 
@@ -66,9 +66,3 @@ pub record IsSized (size : ℕ) (slices free : List Slice) (room : ℕ) : Type 0
   pub pool : IsPool size slices
   pub sized : free ≡ by_size slices
   pub room_for_all : length slices ≤ room
-
--- the slice at a place is in use
-pub record IsUsedAt (slices : List Slice) (place : ℕ) : Type 0 where
-  pub slice : Slice
-  pub found : slice_get slices place ≡ Some slice
-  pub used : is_free slice ≡ false

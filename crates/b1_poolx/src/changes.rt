@@ -2,17 +2,20 @@
 
 ghost use Rattle.std.specs.Prelude.{◌≡◌, ℕ, ◌+◌, ◌^◌, ◌<◌, ◌≤◌, length, true, IsTrue, Some, is_ok, if◌then◌else◌, vec_len};
 ghost use Rattle.std.specs.Vec.{vec_capacity};
+ghost use Rattle.std.specs.VecDeque.{deque_len, deque_capacity};
 ghost use Rattle.b1_pool.specs.Slices.{slice_at, length_at, begins, is_fit, is_unpublished, is_published, IsLength, IsMerged, IsPool, merged, with_alloc, given_back};
-ghost use Rattle.b1_pool.specs.Places.{total, joined_at, freed_at};
-ghost use Rattle.b1_poolx.specs.Sizes.{by_size, IsUsedAt};
+ghost use Rattle.b1_pool.specs.Places.{IsRising, IsUsedAt, total, joined_at, freed_at};
+ghost use Rattle.b1_poolx.specs.Sizes.{by_size};
 
 use crate::sizes::{put_in, take_out};
 use b1_pool::places::{is_published_slice, join_next, place_of, take_front};
 use b1_pool::{NoSlice, Slice, SliceState};
+use std::collections::VecDeque;
 
 /// Takes the front of a free slice.
-pub fn take(slices: &mut Vec<Slice>, free: &mut Vec<Slice>, s: Slice, len: u32)
-    requires room { vec_len slices.old < vec_capacity slices.old }
+pub fn take(slices: &mut VecDeque<Slice>, free: &mut Vec<Slice>, s: Slice, len: u32)
+    requires rising { IsRising slices.old.items }
+    requires room { deque_len slices.old < deque_capacity slices.old }
     requires len { IsLength len }
     requires found { slice_at s.offset slices.old.items ≡ Some s }
     requires fit { is_fit len s ≡ true }
@@ -21,9 +24,9 @@ pub fn take(slices: &mut Vec<Slice>, free: &mut Vec<Slice>, s: Slice, len: u32)
     ensures slices { slices.new.items ≡ with_alloc s.offset len slices.old.items }
     ensures sound { (size : ℕ) → IsPool size slices.old.items → IsPool size slices.new.items }
     ensures sized { free.new.items ≡ by_size slices.new.items }
-    ensures capacity { vec_capacity slices.new ≡ vec_capacity slices.old }
+    ensures capacity { deque_capacity slices.old ≤ deque_capacity slices.new }
     ensures capacity_free { vec_capacity free.new ≡ vec_capacity free.old }
-    ensures len { vec_len slices.new ≤ vec_len slices.old + 1 }
+    ensures len { deque_len slices.new ≤ deque_len slices.old + 1 }
 {
     take_out(free, s);
     take_front(slices, s.offset, len);
@@ -40,17 +43,17 @@ pub fn take(slices: &mut Vec<Slice>, free: &mut Vec<Slice>, s: Slice, len: u32)
 }
 
 /// Joins the slice at a place with the one behind it, if both are free.
-fn join(slices: &mut Vec<Slice>, free: &mut Vec<Slice>, i: usize)
-    requires within { i < vec_len slices.old }
+fn join(slices: &mut VecDeque<Slice>, free: &mut Vec<Slice>, i: usize)
+    requires within { i < deque_len slices.old }
     requires inside { total slices.old.items < 2 ^ 32 }
     requires sized { free.old.items ≡ by_size slices.old.items }
     ensures slices { slices.new.items ≡ joined_at i slices.old.items }
     ensures sized { free.new.items ≡ by_size slices.new.items }
     ensures total { total slices.new.items ≡ total slices.old.items }
-    ensures capacity { vec_capacity slices.new ≡ vec_capacity slices.old }
+    ensures capacity { deque_capacity slices.new ≡ deque_capacity slices.old }
     ensures capacity_free { vec_capacity free.new ≡ vec_capacity free.old }
-    ensures len { vec_len slices.new ≤ vec_len slices.old }
-    ensures within { i < vec_len slices.new }
+    ensures len { deque_len slices.new ≤ deque_len slices.old }
+    ensures within { i < deque_len slices.new }
 {
     if let Some(joined) = join_next(slices, i) {
         take_out(free, joined.first);
@@ -60,18 +63,18 @@ fn join(slices: &mut Vec<Slice>, free: &mut Vec<Slice>, i: usize)
 }
 
 /// Frees the slice in use at a place, and joins it with its free neighbours.
-fn give_back(slices: &mut Vec<Slice>, free: &mut Vec<Slice>, i: usize)
-    requires within { i < vec_len slices.old }
+fn give_back(slices: &mut VecDeque<Slice>, free: &mut Vec<Slice>, i: usize)
+    requires within { i < deque_len slices.old }
     requires inside { total slices.old.items < 2 ^ 32 }
     requires merged { IsMerged slices.old.items }
-    requires room { vec_len slices.old ≤ vec_capacity free.old }
+    requires room { deque_len slices.old ≤ vec_capacity free.old }
     requires used { IsUsedAt slices.old.items i }
     requires sized { free.old.items ≡ by_size slices.old.items }
     ensures slices { slices.new.items ≡ merged (freed_at i slices.old.items) }
     ensures sized { free.new.items ≡ by_size slices.new.items }
-    ensures capacity { vec_capacity slices.new ≡ vec_capacity slices.old }
+    ensures capacity { deque_capacity slices.new ≡ deque_capacity slices.old }
     ensures capacity_free { vec_capacity free.new ≡ vec_capacity free.old }
-    ensures len { vec_len slices.new ≤ vec_len slices.old }
+    ensures len { deque_len slices.new ≤ deque_len slices.old }
 {
     let freed = Slice {
         state: SliceState::Free,
@@ -86,18 +89,19 @@ fn give_back(slices: &mut Vec<Slice>, free: &mut Vec<Slice>, i: usize)
 }
 
 /// Gives the unpublished slice back that begins at an offset.
-pub fn cancel(slices: &mut Vec<Slice>, free: &mut Vec<Slice>, off: u32)
+pub fn cancel(slices: &mut VecDeque<Slice>, free: &mut Vec<Slice>, off: u32)
+    requires rising { IsRising slices.old.items }
     requires unpublished { IsTrue (begins is_unpublished off slices.old.items) }
     requires inside { total slices.old.items < 2 ^ 32 }
     requires merged { IsMerged slices.old.items }
-    requires room { vec_len slices.old ≤ vec_capacity free.old }
+    requires room { deque_len slices.old ≤ vec_capacity free.old }
     requires sized { free.old.items ≡ by_size slices.old.items }
     ensures slices { slices.new.items ≡ given_back off slices.old.items }
     ensures sound { (size : ℕ) → IsPool size slices.old.items → IsPool size slices.new.items }
     ensures sized { free.new.items ≡ by_size slices.new.items }
-    ensures capacity { vec_capacity slices.new ≡ vec_capacity slices.old }
+    ensures capacity { deque_capacity slices.new ≡ deque_capacity slices.old }
     ensures capacity_free { vec_capacity free.new ≡ vec_capacity free.old }
-    ensures len { vec_len slices.new ≤ vec_len slices.old }
+    ensures len { deque_len slices.new ≤ deque_len slices.old }
 {
     if let Some(i) = place_of(slices, off.into()) {
         give_back(slices, free, i);
@@ -105,19 +109,20 @@ pub fn cancel(slices: &mut Vec<Slice>, free: &mut Vec<Slice>, off: u32)
 }
 
 /// Gives the published slice back that begins at an offset, if there is one.
-pub fn release(slices: &mut Vec<Slice>, free: &mut Vec<Slice>, off: u64) -> Result<(), NoSlice>
+pub fn release(slices: &mut VecDeque<Slice>, free: &mut Vec<Slice>, off: u64) -> Result<(), NoSlice>
+    requires rising { IsRising slices.old.items }
     requires inside { total slices.old.items < 2 ^ 32 }
     requires merged { IsMerged slices.old.items }
-    requires room { vec_len slices.old ≤ vec_capacity free.old }
+    requires room { deque_len slices.old ≤ vec_capacity free.old }
     requires sized { free.old.items ≡ by_size slices.old.items }
     ensures ok { is_ok result ≡ begins is_published off slices.old.items }
     ensures slices { slices.new.items
         ≡ (if is_ok result then given_back off slices.old.items else slices.old.items) }
     ensures sound { (size : ℕ) → IsPool size slices.old.items → IsPool size slices.new.items }
     ensures sized { free.new.items ≡ by_size slices.new.items }
-    ensures capacity { vec_capacity slices.new ≡ vec_capacity slices.old }
+    ensures capacity { deque_capacity slices.new ≡ deque_capacity slices.old }
     ensures capacity_free { vec_capacity free.new ≡ vec_capacity free.old }
-    ensures len { vec_len slices.new ≤ vec_len slices.old }
+    ensures len { deque_len slices.new ≤ deque_len slices.old }
 {
     let Some(i) = place_of(slices, off) else {
         return Err(NoSlice);

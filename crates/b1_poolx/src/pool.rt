@@ -10,21 +10,27 @@ use b1_cost::Steps;
 use b1_pool::places::publish_at;
 use b1_pool::{Full, Memory, NoSlice, PoolKind, Slice, SliceState};
 use std::alloc::Global;
+use std::collections::VecDeque;
 use std::marker::Model;
 use std::sync::ledger::Ledger;
 
 /// A pool that keeps its free slices in the order of their lengths and then of their offsets, beside
 /// the list of all its slices in the order of their offsets.
+///
+/// A slice is found in either list in a time of log n. Where one is put into or taken out of the list of
+/// all, those on the shorter side of it move by one: none at either end. In the list of the free ones
+/// those behind it move. Only `make` and `reserve` take memory.
 #[derive(Drop)]
 pub struct SizedPool {
-    slices: Vec<Slice>,
+    slices: VecDeque<Slice>,
     free: Vec<Slice>,
     bytes: Vec<u8>,
 }
 
 impl Model for SizedPool {
-    ghost use Rattle.std.specs.Prelude.{◌-◌, length, vec_len, min};
+    ghost use Rattle.std.specs.Prelude.{◌-◌, length, min};
     ghost use Rattle.std.specs.Vec.{vec_capacity};
+    ghost use Rattle.std.specs.VecDeque.{deque_len, deque_capacity};
     ghost use Rattle.b1_pool.specs.Bytes.{Shown};
     ghost use Rattle.b1_poolx.specs.Sizes.{IsSized};
 
@@ -33,7 +39,7 @@ impl Model for SizedPool {
     ghost view = { λ p. record {
       slices = p.slices.items;
       bytes = p.bytes.items;
-      spare = min (vec_capacity p.slices) (vec_capacity p.free) - vec_len p.slices;
+      spare = min (deque_capacity p.slices) (vec_capacity p.free) - deque_len p.slices;
     } };
 
     ghost invariant = { λ p. IsSized (length p.bytes.items) p.slices.items p.free.items
@@ -69,8 +75,8 @@ impl PoolKind for SizedPool {
             length: size,
             state: SliceState::Free,
         };
-        let mut slices = Vec::new(alloc);
-        slices.push(whole)?;
+        let mut slices = VecDeque::new(alloc);
+        slices.push_back(whole)?;
         let mut free = Vec::new(alloc);
         free.push(whole)?;
         Ok(SizedPool {

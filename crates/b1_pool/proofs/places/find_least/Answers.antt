@@ -1,15 +1,12 @@
-use Rattle.std.proofs.Common.{sym}
-use Rattle.b1_pool.proofs.FitLemmas.{least_more, least_passed}
+use Rattle.std.proofs.Common.{ap, sym, ◌∙◌}
+use Rattle.b1_pool.specs.Slices.{least_fit}
+use Rattle.b1_pool.specs.Places.{least_of}
+use Rattle.b1_pool.proofs.FitLemmas.{least_fit-append}
 use Rattle.b1_pool.proofs.places.find_least.Goals as goal
-use Rattle.b1_pool.proofs.places.find_least.Goals.{then-is_long_enough, else-is_long_enough}
 
-pub loop-s-preserved : goal.loop-s-preserved
-loop-s-preserved c =
-    elim c.if-is_long_enough.branch [
-      | then-is_long_enough w ↦
-          rw (w.least-is, w.lesser_so_far.ensures)
-          (least_more c.args.len c.args.slices.now c.loop-s.s-index c.loop-s.least _ c.loop-s-test.true (sym w.if-is_long_enough.ensures) c.loop-s.invariant)
-      | else-is_long_enough w ↦
-          rw w.least-is
-          (least_passed c.args.len c.args.slices.now c.loop-s.s-index c.loop-s.least _ c.loop-s-test.true (sym w.if-is_long_enough.ensures) c.loop-s.invariant)
-    ]
+pub returns : goal.returns
+returns c =
+    c.least_with-2.ensures
+    ∙ ap (λ l. least_of l (least_fit c.args.len c.as_slices.result.1.now)) c.least_with.ensures
+    ∙ sym (least_fit-append c.args.len c.as_slices.result.0.now c.as_slices.result.1.now)
+    ∙ ap (least_fit c.args.len) c.as_slices.ensures.items

@@ -26,7 +26,8 @@ pub returns-then-are_free-clause-total : goal.returns-then-are_free-clause-total
 returns-then-are_free-clause-total c =
     let within : c.args.i + 1 < length c.args.slices.now.items = omega arith in
     let both = sym c.if-are_free.ensures in
-    total-both c.args.slices.now.items _ _ _ _ within c.index.ensures c.index-then-i-len.ensures both c.remove.ensures.items
+    let removed = rw (c.remove.ensures.succeeds c.index.result.now (omega arith)) at c.remove.ensures.items in
+    total-both c.args.slices.now.items _ _ _ _ within c.index.ensures c.index-then-i-len.ensures both removed
 
 pub returns-else-i-len-clause-slices : goal.returns-else-i-len-clause-slices
 returns-else-i-len-clause-slices c = joined_at-last _ _ (omega arith)

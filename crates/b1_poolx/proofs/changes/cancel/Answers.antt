@@ -1,4 +1,4 @@
-use Rattle.std.proofs.Common.{ap, sym, subst, ◌∙◌}
+use Rattle.std.proofs.Common.{refl, ap, sym, subst, ◌∙◌}
 use Rattle.b1_pool.specs.Slices.{IsPool, merged, is_unpublished}
 use Rattle.b1_pool.proofs.PlaceLemmas.{place_as}
 use Rattle.b1_pool.proofs.PoolLemmas.{IsPool-given_back, freed_at-place, unpublished_is_used}
@@ -7,12 +7,12 @@ use Rattle.b1_poolx.proofs.changes.cancel.Goals as goal
 
 pub give_back-requires-clause-used : goal.give_back-requires-clause-used
 give_back-requires-clause-used c =
-    let place = place_as c.into.ensures c.deref.ensures.value c.in-Some.ensures in
+    let place = place_as c.into.ensures refl c.in-Some.ensures in
     used_place is_unpublished _ _ _ place unpublished_is_used c.requires.unpublished
 
 pub returns-in-Some-clause-slices : goal.returns-in-Some-clause-slices
 returns-in-Some-clause-slices c =
-    let place = place_as c.into.ensures c.deref.ensures.value c.in-Some.ensures in
+    let place = place_as c.into.ensures refl c.in-Some.ensures in
     c.give_back.ensures.slices ∙ ap merged (freed_at-place _ _ _ place)
 
 pub returns-in-Some-clause-sound : goal.returns-in-Some-clause-sound

@@ -7,7 +7,11 @@ use Rattle.b1_pool.proofs.FitLemmas.{is_some-least_fit}
 use Rattle.b1_pool.proofs.SliceLemmas.{slice_at-with_alloc}
 use Rattle.b1_pool.proofs.PoolLemmas.{begins-least_fit, IsBestFit-least_fit, inside-IsPool, least_fit-found}
 use Rattle.b1_poolx.proofs.ChangeLemmas.{IsBySize-sized, found_least}
+use Rattle.b1_pool.proofs.OrderLemmas.{rising-IsPool}
 use Rattle.b1_poolx.proofs.pool.SizedPoolPoolKind.alloc.Goals as goal
+
+pub take-requires-clause-rising : goal.take-requires-clause-rising
+take-requires-clause-rising c = rising-IsPool _ _ c.self.invariant.pool
 
 pub find_uncounted-requires : goal.find_uncounted-requires
 find_uncounted-requires c = IsBySize-sized c.self.inside.slices.items _ (c.deref.ensures.value ∙ c.self.invariant.sized)

@@ -2,7 +2,11 @@ use Rattle.std.proofs.Common.{ap, sym, ◌∙◌, arith}
 use Rattle.b1_pool.specs.Slices.{begins, is_unpublished}
 use Rattle.b1_poolx.specs.Sizes.{by_size}
 use Rattle.b1_poolx.proofs.ChangeLemmas.{by_size-publish}
+use Rattle.b1_pool.proofs.OrderLemmas.{rising-IsPool}
 use Rattle.b1_poolx.proofs.pool.SizedPoolPoolKind.publish.Goals as goal
+
+pub publish_at-requires-clause-rising : goal.publish_at-requires-clause-rising
+publish_at-requires-clause-rising c = rising-IsPool _ _ c.self.invariant.pool
 
 pub invariant_of-self : goal.invariant_of-self
 invariant_of-self c =
