@@ -92,6 +92,7 @@ completes words form (Some input) said text r asks known whole says accepted ask
   where
     head : (a b : List ℕ) → ◌≡◌ {A = List (List ℕ)} (a ∷ []) (b ∷ []) → a ≡ b
     head a b e = cc e
+
     status_is : (r ≡ status said) ⊎ (r ≡ 5) → r ≡ status said
     status_is (inl e) = e
     status_is (inr e) = absurd (whole e)

@@ -1,6 +1,6 @@
 use b1_errs::{Cause, NotRead};
 use b1_model::{Bytes, Command, Limits, Nums, SendCmd};
-use b1_records::{decode, encode};
+use b1_records::{decode, decode2, encode, encode2};
 use std::test::Fail;
 
 /// A SEND of `hi` to the number 2.
@@ -95,6 +95,80 @@ fn commands_are_written(rt: HostRuntime) -> Result<(), Fail> {
             0, 0, 0
         ]
         .as_slice()
+    );
+    Ok(())
+}
+
+/// The same SEND with the cookie 0.
+const SEND_WITH_COOKIE: [u8; 48] = [
+    7, 0, 0, 0, 0, 0, 0, 0, 0, 0, 0, 0, 0, 0, 0, 0, 1, 0, 0, 0, 0, 0, 0, 0, 2, 0, 0, 0, 0, 0, 0, 0,
+    2, 0, 0, 0, 0, 0, 0, 0, 104, 105, 0, 0, 0, 0, 0, 0,
+];
+
+#[test]
+fn a_send_with_a_cookie(rt: HostRuntime) -> Result<(), Fail> {
+    let alloc = rt.alloc();
+    let (plain, _) = decode(alloc, &SEND, 0)?;
+    let (cookie, command, end) = decode2(alloc, &SEND_WITH_COOKIE, 0)?;
+    assert_eq!(rt; cookie, 0);
+    assert_eq!(rt; end, 48);
+    let mut without = Vec::new(alloc);
+    encode(&command, &mut without)?;
+    assert_eq!(rt; without.as_slice(), SEND.as_slice());
+    let mut with = Vec::new(alloc);
+    encode2(0, &plain, &mut with)?;
+    assert_eq!(rt; with.as_slice(), SEND_WITH_COOKIE.as_slice());
+    Ok(())
+}
+
+// A PEER_RESET flushes where its flag is set, and else sets the limits alone.
+#[test]
+fn resets_with_a_cookie(rt: HostRuntime) -> Result<(), Fail> {
+    let alloc = rt.alloc();
+    let mut bytes = [
+        3, 0, 0, 0, 1, 0, 0, 0, 9, 0, 0, 0, 0, 0, 0, 128, 1, 0, 0, 0, 2, 0, 0, 0, 3, 0, 0, 0, 0, 0,
+        0, 0,
+    ];
+    let (cookie, flush, end) = decode2(alloc, &bytes, 0)?;
+    assert_eq!(rt; cookie, 0x8000_0000_0000_0009);
+    assert_eq!(rt; end, 32);
+    assert!(rt;
+        matches!(
+            flush,
+            Command::Reset {
+                limits: Limits {
+                    entries: 1,
+                    bytes: 2,
+                    handles: 3
+                }
+            }
+        )
+    );
+    let mut out = Vec::new(alloc);
+    encode2(cookie, &flush, &mut out)?;
+    assert_eq!(rt; out.as_slice(), bytes.as_slice());
+    bytes[4] = 0;
+    let (_, limit, _) = decode2(alloc, &bytes, 0)?;
+    assert!(rt;
+        matches!(
+            limit,
+            Command::Limit {
+                limits: Limits {
+                    entries: 1,
+                    bytes: 2,
+                    handles: 3
+                }
+            }
+        )
+    );
+    bytes[4] = 2;
+    let broken = decode2(alloc, &bytes, 0);
+    assert_eq!(rt;
+        broken.err(),
+        Some(NotRead::Bad {
+            at: 4,
+            cause: Cause::Flags
+        })
     );
     Ok(())
 }

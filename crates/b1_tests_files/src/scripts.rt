@@ -1,8 +1,8 @@
 use b1_errs::{Cause, NotRead};
 use b1_model::{Calls, Command};
-use b1_script::{read, read_whole, resolve, write};
+use b1_script::{ScriptReader, read, read_whole, resolve, write};
 use b1_text::{assemble, print_script};
-use std::alloc::Global;
+use std::alloc::{AllocError, Global};
 use std::test::Fail;
 
 /// Two peers, a wire from peer 1 to peer 0, a SEND of `hi` by peer 0 and a RECV by peer 1.
@@ -135,5 +135,53 @@ fn a_reference_without_receipt(rt: HostRuntime) -> Result<(), Fail> {
         &Calls::new(alloc),
     )?;
     assert!(rt; matches!(&resolved, Command::SliceRelease { offset: u64::MAX }));
+    Ok(())
+}
+
+// What a reader makes of bytes in pieces of so many, and how many bytes it took.
+fn in_pieces(
+    alloc: Global,
+    bytes: &[u8],
+    size: usize,
+) -> Result<(ScriptReader, usize), AllocError> {
+    let mut reader = ScriptReader::make(alloc);
+    let mut taken = 0;
+    for piece in bytes.chunks(size) {
+        taken += reader.feed(piece)?;
+    }
+    Ok((reader, taken))
+}
+
+// However a script is cut, the same is read, and nothing behind it is taken.
+#[test]
+fn script_in_pieces(rt: HostRuntime) -> Result<(), Fail> {
+    let alloc = rt.alloc();
+    let mut longer = Vec::from_slice(alloc, &ONE_MESSAGE)?;
+    longer.extend_from_slice(&[1, 2, 3])?;
+    for bytes in [ONE_MESSAGE.as_slice(), longer.as_slice()] {
+        for size in [1, 7, 168, 171] {
+            let (reader, taken) = in_pieces(alloc, bytes, size)?;
+            assert_eq!(rt; taken, 168);
+            assert!(rt; reader.is_whole());
+            let script = reader.finish()?;
+            assert_eq!(rt; write(alloc, &script)?.as_slice(), ONE_MESSAGE.as_slice());
+        }
+    }
+    Ok(())
+}
+
+#[test]
+fn cut_script_in_pieces(rt: HostRuntime) -> Result<(), Fail> {
+    let alloc = rt.alloc();
+    let (reader, taken) = in_pieces(alloc, &ONE_MESSAGE[..167], 5)?;
+    assert_eq!(rt; taken, 167);
+    assert!(rt; !reader.is_whole());
+    assert_eq!(rt;
+        reader.finish().err(),
+        Some(NotRead::Bad {
+            at: 164,
+            cause: Cause::Short
+        })
+    );
     Ok(())
 }

@@ -124,7 +124,13 @@ fn each_read_fails(rt: HostRuntime) -> Result<(), Fail> {
         assert_eq!(rt; status, 4);
         assert!(rt; sink.taken().is_empty());
     }
-    let (status, sink) = call(alloc, "play", &script, [reads].to_vec(alloc)?, Vec::new(alloc))?;
+    let (status, sink) = call(
+        alloc,
+        "play",
+        &script,
+        [reads].to_vec(alloc)?,
+        Vec::new(alloc),
+    )?;
     assert_eq!(rt; status, 0);
     assert_eq!(rt; sink.taken(), CLIENT_SERVER_LOGGER_REPORT.as_bytes());
     Ok(())
