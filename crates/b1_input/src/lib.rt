@@ -3,4 +3,4 @@
 
 mod input;
 
-pub use input::Input;
+pub use input::{Front, Input};

@@ -1,15 +1,13 @@
 -- What is said of an accepted input: that it has no fault.
-use Rattle.std.proofs.Common.{◌≡◌, ◌⊎◌, inl, inr, refl, sym, ◌∙◌, subst, arith, ℕ, ◌<◌, List, [], ◌∷◌, length, Option, Some, None, IfSome}
-use Rattle.b1_io.specs.declared.wholes.NotAll.{NotAll}
-use Rattle.b1_io.specs.declared.wholes.NotAll.TheVariants.{Long}
-use Rattle.b1_io.specs.Whole.{OnLong}
+use Rattle.std.proofs.Common.{◌≡◌, ◌⊎◌, inl, inr, refl, sym, ◌∙◌, subst, ap, arith, ℕ, ◌<◌, List, [], ◌∷◌, length, Option, Some, None, IfSome}
 use Rattle.b1_script.specs.declared.script.Script.{Script}
 use Rattle.b1_shell.specs.declared.Said.{Said}
 use Rattle.b1_shell.specs.declared.Said.TheVariants.{Done, Bad, Stalled, Broken}
 use Rattle.b1_shell.specs.declared.forms.Form.{Form}
 use Rattle.b1_shell.specs.declared.forms.Form.TheVariants.{Play, Asm, Dump, Check}
 use Rattle.b1_shell.specs.Answers.{IsAccepted, IsAnswer, Says, SaysOf, status}
-use Rattle.b1_shell.specs.Ends.{Completes}
+use Rattle.b1_shell.specs.Ends.{Completes, ReadsToEnd}
+use Rattle.b1_shell.specs.Reads.{IsRead}
 use Rattle.b1_shell.specs.Forms.{Asks, most_input, word_of}
 use Rattle.b1_shell.specs.Runs.{RunCompletes, RunSays, RunSaysOf}
 
@@ -27,22 +25,27 @@ said_of_run s Bad text says e = says
 said_of_run s Broken text says e = says
 
 -- a word is that of one form
+first : List ℕ → ℕ
+first [] = 0
+first (x ∷ xs) = x
+
 pub same_form : (a b : Form) → word_of a ≡ word_of b → a ≡ b
+unfolding first
 same_form Play Play e = refl
-same_form Play Asm e = absurd (cc e)
-same_form Play Dump e = absurd (cc e)
-same_form Play Check e = absurd (cc e)
-same_form Asm Play e = absurd (cc e)
+same_form Play Asm e = absurd (omega (arith, ap first e))
+same_form Play Dump e = absurd (omega (arith, ap first e))
+same_form Play Check e = absurd (omega (arith, ap first e))
+same_form Asm Play e = absurd (omega (arith, ap first e))
 same_form Asm Asm e = refl
-same_form Asm Dump e = absurd (cc e)
-same_form Asm Check e = absurd (cc e)
-same_form Dump Play e = absurd (cc e)
-same_form Dump Asm e = absurd (cc e)
+same_form Asm Dump e = absurd (omega (arith, ap first e))
+same_form Asm Check e = absurd (omega (arith, ap first e))
+same_form Dump Play e = absurd (omega (arith, ap first e))
+same_form Dump Asm e = absurd (omega (arith, ap first e))
 same_form Dump Dump e = refl
-same_form Dump Check e = absurd (cc e)
-same_form Check Play e = absurd (cc e)
-same_form Check Asm e = absurd (cc e)
-same_form Check Dump e = absurd (cc e)
+same_form Dump Check e = absurd (omega (arith, ap first e))
+same_form Check Play e = absurd (omega (arith, ap first e))
+same_form Check Asm e = absurd (omega (arith, ap first e))
+same_form Check Dump e = absurd (omega (arith, ap first e))
 same_form Check Check e = refl
 
 -- what is said of an input that isn't refused has a status of the form
@@ -73,13 +76,6 @@ memory_answers Play = inr (inr refl)
 memory_answers Asm = inr refl
 memory_answers Dump = inr refl
 memory_answers Check = inr (inr refl)
-
--- too many bytes are not accepted
-pub long_refused : (form : Form) (limit : ℕ) (e : NotAll) (left : Option (List ℕ)) (said : Said) → limit ≡ most_input form → e ≡ Long → OnLong e (IfSome left (λ held. limit < length held)) → IfSome left (λ held. IsAccepted form held → said ≡ Bad → ⊥)
-long_refused form limit e None said most is h = tt
-long_refused form limit e (Some held) said most is h =
-    let above = subst (λ (w : NotAll). OnLong w (limit < length held)) is h in
-    λ accepted same. omega (arith, above, most, accepted.few)
 
 -- what was written whole of an input that isn't refused
 pub completes : (words : List (List ℕ)) (form : Form) (held : Option (List ℕ)) (said : Said) (text : List ℕ) (r : ℕ) → Asks words form
@@ -116,3 +112,18 @@ memory_completes words (Some input) form asks = λ given. memory_answers form
 pub run_memory_completes : (held : Option (List ℕ)) → RunCompletes held 6
 run_memory_completes None = tt
 run_memory_completes (Some input) = λ given. memory_answers Play
+
+-- ---- the source
+
+-- what is known of a source, by the status of what was said
+pub reads_to_end : (words : List (List ℕ)) (form : Form) (held left : Option (List ℕ)) (said : Said) (text : List ℕ) (r : ℕ) → Asks words form
+    → (r ≡ status said) ⊎ (r ≡ 5) → IsRead (Says form) form held left said text → ReadsToEnd words held left r
+reads_to_end words form held left said text r asks known read = record {
+  done = λ is. read.unless_bad (unless 0 is (λ e. cc e) (λ e. cc e));
+  bad = λ is. record { form = form; asks = asks; holds = read.end };
+  stalled = λ is. read.unless_bad (unless 3 is (λ e. cc e) (λ e. cc e));
+  broken = λ is. read.unless_bad (unless 7 is (λ e. cc e) (λ e. cc e));
+}
+  where
+    unless : (n : ℕ) → r ≡ n → (n ≡ 5 → ⊥) → (n ≡ 2 → ⊥) → said ≡ Bad → ⊥
+    unless n is five two e = elim known [ inl same ↦ two (sym is ∙ same ∙ ap status e) | inr same ↦ five (sym is ∙ same) ]

@@ -52,24 +52,6 @@ long_is_fault Asm bytes h = (refl, h)
 long_is_fault Dump bytes h = long_is_bad bytes h
 long_is_fault Check bytes h = long h refl refl
 
--- of too many bytes it is said that they are too many
-pub long_said : (form : Form) (limit : ℕ) (e : NotAll) (left : Option (List ℕ)) (text : List ℕ) → limit ≡ most_input form → e ≡ Long → OnLong e (IfSome left (λ held. limit < length held)) → text ≡ bad_line limit causes.Long → IfSome left (λ held. Says form held Bad text)
-long_said form limit e None text most is h same = tt
-long_said form limit e (Some held) text most is h same =
-    let above = subst (λ (w : NotAll). OnLong w (limit < length held)) is h in
-    record { at = limit; cause = causes.Long; fault = subst (λ n. IsFault form held n causes.Long) (sym most) (long_is_fault form held (rw (sym most) above)); text_is = same }
-
--- what is behind a place, as it is read
-behind : (bytes : List ℕ) (end : ℕ) → take (length bytes - end) (drop end bytes) ≡ drop end bytes
-behind bytes end = let n = length-drop end bytes in take_all (length bytes - end) (drop end bytes) (omega (arith, n))
-
--- a fault of the report behind a script is one of the input
-pub report_fault : (input : List ℕ) (s : Script) (end inner peers : ℕ) (cause : Cause) (why : NotRead) → length input ≤ MOST_CHECKED → IsScript input s end → peers ≡ length s.opening.peers → why ≡ unread.Bad inner cause → reports.TellsFault peers (take (length input - end) (drop end input)) why → IsFault Check input (end + inner) cause
-report_fault input s end inner peers cause why few stands count is fault =
-    let counted : reports.TellsFault (length s.opening.peers) (take (length input - end) (drop end input)) why = subst (λ n. reports.TellsFault n (take (length input - end) (drop end input)) why) count fault in
-    let seen : reports.TellsFault (length s.opening.peers) (drop end input) why = subst (λ tail. reports.TellsFault (length s.opening.peers) tail why) (behind input end) counted in
-    report few s end inner stands (subst (λ (w : NotRead). reports.TellsFault (length s.opening.peers) (drop end input) w) is seen) refl
-
 -- a part of what is said of the held bytes was taken
 took_part : (P : List ℕ → Said → List ℕ → Type 0) (said : Said) (held old new : Option (List ℕ)) (text : List ℕ) → TookSuch old new text (λ n. n < length text) → IfSome held (λ input. P input said text) → IfSome held (λ input. TookPart old new (λ t. (s : Said) × P input s t))
 took_part P said None old new text took says = tt

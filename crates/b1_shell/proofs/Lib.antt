@@ -1,3 +1,4 @@
 pub mod Lemmas
 pub mod Plays
 pub mod Complete
+pub mod Inputs

@@ -4,6 +4,7 @@ pub mod Faults
 pub mod Plays
 pub mod Answers
 pub mod Ends
+pub mod Reads
 pub mod Threads
 pub mod Runs
 pub use Rattle.b1_io.specs.Streams

@@ -2,8 +2,6 @@
 ghost use Rattle.std.specs.Prelude.{◌≡◌, map, string_bytes, IfNone, IfSome};
 ghost use Rattle.b1_shell.specs.Forms as forms;
 
-use b1_model::{MOST_CHECKED, MOST_SCRIPT, MOST_TEXT};
-
 /// What is done with the input.
 #[derive(Clone, Copy, Debug, PartialEq, Eq)]
 pub enum Form {
@@ -40,16 +38,5 @@ fn form_of_word(word: &String) -> Option<Form>
         "dump" => Some(Form::Dump),
         "check" => Some(Form::Check),
         _ => None,
-    }
-}
-
-/// How many bytes the input has at most.
-pub fn most_input(form: Form) -> usize
-    ensures { result ≡ forms.most_input form }
-{
-    match form {
-        Form::Play | Form::Dump => MOST_SCRIPT,
-        Form::Asm => MOST_TEXT,
-        Form::Check => MOST_CHECKED,
     }
 }

@@ -5,34 +5,41 @@ mod answer;
 mod checking;
 mod forms;
 mod lines;
+mod reading;
 mod running;
 mod stalls;
 mod texts;
 mod threaded;
 
-ghost use Rattle.std.specs.Prelude.{◌≡◌, ◌≢◌, ◌<◌, ◌≤◌, ◌⊎◌, ℕ, [], Some, length, IfOk, IfErr, IfSome};
+ghost use Rattle.std.specs.Prelude.{◌≡◌, ◌≢◌, ◌<◌, ◌≤◌, ◌⊎◌, ℕ, length, IfOk, IfErr};
 ghost use Rattle.b1_io.specs.Streams.{Rose, Took, TookSuch};
-ghost use Rattle.b1_shell.specs.Answers.{IsAccepted, Says, status};
-ghost use Rattle.b1_shell.specs.Forms.{AsksNothing, most_input as most};
+ghost use Rattle.b1_shell.specs.Answers.{Says, status};
+ghost use Rattle.b1_shell.specs.Reads.{IsRead};
+ghost use Rattle.b1_shell.specs.declared.forms.Form.TheVariants.{Asm, Check, Dump, Play};
+ghost use Rattle.b1_shell.specs.Forms.{AsksNothing};
 ghost use Rattle.b1_shell.specs.Ends.{spelled, Completes, TellsUsage, TellsInput, ReadsToEnd};
 ghost use Rattle.b1_shell.specs.Runs.{RunCompletes, TellsRun, TellsSoak};
 ghost use Rattle.b1_shell.specs.Threads as threads;
 ghost use Rattle.b1_shell.specs.declared.threaded.Threaded.TheVariants.{Run, Soak};
-ghost use Rattle.b1_shell.specs.declared.Said.TheVariants.{Bad, Done, Stalled, Broken};
 ghost use Rattle.b1_shell.specs.declared.Unsaid.TheVariants.{Fault, Memory};
 
-use answer::answer;
+use answer::answer_play;
 use b1_edge::Gate;
 use b1_errs::Cause;
-use b1_io::{NotAll, Sink, Source, read_all, write_all};
+use b1_input::Input;
+use b1_io::{Sink, Source, write_all};
+use b1_model::{MOST_CHECKED, MOST_SCRIPT, MOST_TEXT};
 use b1_soak::soak;
+use checking::answer_check;
 pub use forms::Form;
-use forms::{form_of, most_input};
+use forms::form_of;
 use lines::bad_line;
+use reading::read_to_end;
 use running::read_and_run;
 use std::alloc::{AllocError, Global};
 use std::sync::Wait;
 use std::thread::Threads;
+use texts::{answer_asm, answer_dump};
 pub use threaded::Threaded;
 use threaded::threaded_of;
 
@@ -66,33 +73,74 @@ impl From<AllocError> for Unsaid {
     }
 }
 
-// Reads the source to its end, and makes the whole text.
+// Reads the source to its end, and makes the whole text. A script is taken in pieces.
 fn read_and_answer<S: Source>(
     alloc: Global,
     form: Form,
     source: &mut S,
 ) -> Result<(Said, Vec<u8>), Unsaid>
-    ensures says { IfOk result (λ r.
-        IfSome (S.left source.old) (λ held. Says form held r.0 r.1.items)) }
-    ensures accepted { IfOk result (λ r.
-        IfSome (S.left source.old) (λ held. IsAccepted form held → r.0 ≢ Bad)) }
-    ensures end { IfOk result (λ r. IfSome (S.left source.old) (λ held. length held ≤ most form
-        → S.left source.new ≡ Some [])) }
-    ensures done_end { IfOk result (λ r. r.0 ≡ Done
-        → IfSome (S.left source.old) (λ held. S.left source.new ≡ Some [])) }
-    ensures stalled_end { IfOk result (λ r. r.0 ≡ Stalled
-        → IfSome (S.left source.old) (λ held. S.left source.new ≡ Some [])) }
-    ensures broken_end { IfOk result (λ r. r.0 ≡ Broken
-        → IfSome (S.left source.old) (λ held. S.left source.new ≡ Some [])) }
+    ensures read { IfOk result (λ r.
+        IsRead (Says form) form (S.left source.old) (S.left source.new) r.0 r.1.items) }
     ensures fault { IfErr result (λ e. e ≡ Fault
         → Rose (S.faults source.old) (S.faults source.new)) }
 {
-    let limit = most_input(form);
-    match read_all(alloc, source, limit) {
-        Ok(bytes) => Ok(answer(alloc, form, &bytes)?),
-        Err(NotAll::Long) => Ok((Said::Bad, bad_line(alloc, limit, Cause::Long)?)),
-        Err(NotAll::Fault) => Err(Unsaid::Fault),
-        Err(NotAll::Memory) => Err(Unsaid::Memory),
+    match form {
+        Form::Asm => read_and_assemble(alloc, source),
+        Form::Play => read_and_play(alloc, source),
+        Form::Dump => read_and_dump(alloc, source),
+        Form::Check => read_and_check(alloc, source),
+    }
+}
+
+// Reads the source for the word `asm`, and makes the whole text.
+fn read_and_assemble<S: Source>(alloc: Global, source: &mut S) -> Result<(Said, Vec<u8>), Unsaid>
+    ensures read { IfOk result (λ r.
+        IsRead (Says Asm) Asm (S.left source.old) (S.left source.new) r.0 r.1.items) }
+    ensures fault { IfErr result (λ e. e ≡ Fault
+        → Rose (S.faults source.old) (S.faults source.new)) }
+{
+    match read_to_end(source, Vec::new(alloc), MOST_TEXT)? {
+        Some(bytes) => Ok(answer_asm(alloc, &bytes)?),
+        None => Ok((Said::Bad, bad_line(alloc, MOST_TEXT, Cause::Long)?)),
+    }
+}
+
+// Reads the source for the word `play`, and makes the whole text.
+fn read_and_play<S: Source>(alloc: Global, source: &mut S) -> Result<(Said, Vec<u8>), Unsaid>
+    ensures read { IfOk result (λ r.
+        IsRead (Says Play) Play (S.left source.old) (S.left source.new) r.0 r.1.items) }
+    ensures fault { IfErr result (λ e. e ≡ Fault
+        → Rose (S.faults source.old) (S.faults source.new)) }
+{
+    match read_to_end(source, Input::make(alloc), MOST_SCRIPT)? {
+        Some(input) => Ok(answer_play(alloc, input)?),
+        None => Ok((Said::Bad, bad_line(alloc, MOST_SCRIPT, Cause::Long)?)),
+    }
+}
+
+// Reads the source for the word `dump`, and makes the whole text.
+fn read_and_dump<S: Source>(alloc: Global, source: &mut S) -> Result<(Said, Vec<u8>), Unsaid>
+    ensures read { IfOk result (λ r.
+        IsRead (Says Dump) Dump (S.left source.old) (S.left source.new) r.0 r.1.items) }
+    ensures fault { IfErr result (λ e. e ≡ Fault
+        → Rose (S.faults source.old) (S.faults source.new)) }
+{
+    match read_to_end(source, Input::make(alloc), MOST_SCRIPT)? {
+        Some(input) => Ok(answer_dump(alloc, input)?),
+        None => Ok((Said::Bad, bad_line(alloc, MOST_SCRIPT, Cause::Long)?)),
+    }
+}
+
+// Reads the source for the word `check`, and makes the whole text.
+fn read_and_check<S: Source>(alloc: Global, source: &mut S) -> Result<(Said, Vec<u8>), Unsaid>
+    ensures read { IfOk result (λ r.
+        IsRead (Says Check) Check (S.left source.old) (S.left source.new) r.0 r.1.items) }
+    ensures fault { IfErr result (λ e. e ≡ Fault
+        → Rose (S.faults source.old) (S.faults source.new)) }
+{
+    match read_to_end(source, Input::make(alloc), MOST_CHECKED)? {
+        Some(input) => Ok(answer_check(alloc, input)?),
+        None => Ok((Said::Bad, bad_line(alloc, MOST_CHECKED, Cause::Long)?)),
     }
 }
 
@@ -169,8 +217,8 @@ fn run<S: Source, K: Sink>(alloc: Global, words: &[String], source: &mut S, sink
 /// - 7: with `check`, the report is not legal; a line that says where was written.
 ///
 /// The source is read to its end, or one byte past the most that the input may have (`play` and `dump` 16,777,216
-/// bytes, `asm` 67,108,864, `check` 268,435,456), before anything is judged, and each text is made whole before it is
-/// written. `docs/FORMATS.md` tells the forms.
+/// bytes, `asm` 67,108,864, `check` 268,435,456), before anything is answered; a script is taken in pieces, and read once.
+/// Each text is made whole before it is written. `docs/FORMATS.md` tells the forms.
 pub fn quiet<S: Source, K: Sink>(
     alloc: Global,
     words: &[String],

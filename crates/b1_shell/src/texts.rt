@@ -1,14 +1,16 @@
 // What is said of a text that is to be a script, and of a script whose text is asked for.
-ghost use Rattle.std.specs.Prelude.{◌≢◌, IfOk};
+ghost use Rattle.std.specs.Prelude.{◌≢◌, ◌≤◌, length, IfOk};
+ghost use Rattle.b1_input.specs.Held.{held_bytes};
+ghost use Rattle.b1_model.specs.declared.limits.TheConstants.{MOST_SCRIPT};
 ghost use Rattle.b1_shell.specs.declared.Said.TheVariants.{Bad};
 ghost use Rattle.b1_shell.specs.declared.forms.Form.TheVariants.{Asm, Dump};
-ghost use Rattle.b1_shell.specs.Forms as forms;
 ghost use Rattle.b1_shell.specs.Answers.{IsAsked, Says};
 
 use crate::Said;
 use crate::lines::bad_line;
 use b1_errs::NotRead;
-use b1_script::{read_whole, write};
+use b1_input::Input;
+use b1_script::write;
 use b1_text::{assemble, print_script};
 use std::alloc::{AllocError, Global};
 
@@ -25,11 +27,12 @@ pub fn answer_asm(alloc: Global, bytes: &[u8]) -> Result<(Said, Vec<u8>), AllocE
 }
 
 /// What is said of a script. An error is want of memory.
-pub fn answer_dump(alloc: Global, bytes: &[u8]) -> Result<(Said, Vec<u8>), AllocError>
-    ensures says { IfOk result (λ r. Says Dump bytes.now r.0 r.1.items) }
-    ensures accepted { IfOk result (λ r. IsAsked Dump bytes.now → r.0 ≢ Bad) }
+pub fn answer_dump(alloc: Global, input: Input) -> Result<(Said, Vec<u8>), AllocError>
+    requires { length (held_bytes input) ≤ MOST_SCRIPT }
+    ensures says { IfOk result (λ r. Says Dump (held_bytes input) r.0 r.1.items) }
+    ensures accepted { IfOk result (λ r. IsAsked Dump (held_bytes input) → r.0 ≢ Bad) }
 {
-    match read_whole(alloc, bytes) {
+    match input.whole() {
         Ok(script) => Ok((Said::Done, print_script(alloc, &script)?)),
         Err(NotRead::Bad { at, cause }) => Ok((Said::Bad, bad_line(alloc, at, cause)?)),
         Err(NotRead::Memory) => Err(AllocError),

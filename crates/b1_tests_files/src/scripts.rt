@@ -138,16 +138,16 @@ fn a_reference_without_receipt(rt: HostRuntime) -> Result<(), Fail> {
     Ok(())
 }
 
-// What a reader makes of bytes in pieces of so many, and how many bytes it took.
+// What a reader makes of bytes in pieces of so many, one at least, and how many bytes it took.
 fn in_pieces(
     alloc: Global,
     bytes: &[u8],
     size: usize,
 ) -> Result<(ScriptReader, usize), AllocError> {
     let mut reader = ScriptReader::make(alloc);
-    let mut taken = 0;
-    for piece in bytes.chunks(size) {
-        taken += reader.feed(piece)?;
+    let mut taken = 0usize;
+    for piece in bytes.chunks(size.max(1)) {
+        taken = taken.saturating_add(reader.feed(piece)?);
     }
     Ok((reader, taken))
 }

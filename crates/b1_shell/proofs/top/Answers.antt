@@ -18,3 +18,6 @@ returns-in-Some-Soak-clause-soak g c = λ n is.
     let asked : threads.Asks words (Soak c.in-Some-Soak.number) = subst (threads.Asks words) c.in-Some-Soak.field-0-is c.in-Some-Soak.ensures.asked in
     let same : c.in-Some-Soak.number ≡ n = same_soak words c.in-Some-Soak.number n asked is in
     subst (λ (k : ℕ). TellsSoak k (g.K.Sink.taken c.args.sink.now) (g.K.Sink.taken c.write_soak.new.sink) c.write_soak.result) same c.write_soak.ensures.tells
+
+pub returns-in-None-clause-run_complete : goal.returns-in-None-clause-run_complete
+returns-in-None-clause-run_complete g c = λ read written asks. absurd (c.in-None.ensures.nothing Run asks)

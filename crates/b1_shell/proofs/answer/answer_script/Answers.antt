@@ -19,8 +19,8 @@ stall_report-requires c =
     let stall : IsStall s.opening s.commands s.turns c.in-Stalled.waiting r = subst (PlaysScript s) c.in-Stalled.is c.in_ok-outcome.ensures.plays in
     c.what_is_played_is_spelled.ensures.stalled s.opening s.commands s.turns c.in-Stalled.waiting r c.requires.opening (no_limits s.commands c.requires.commands) stall
 
-pub returns-in_ok-print-in-Done : goal.returns-in_ok-print-in-Done
-returns-in_ok-print-in-Done c =
+pub returns-in_ok-print-in-Done-clause-says : goal.returns-in_ok-print-in-Done-clause-says
+returns-in_ok-print-in-Done-clause-says c =
     let s = c.args.script.now in
     let r = c.in-Done.outcome in
     let play : IsPlay s.opening s.commands s.turns r = subst (PlaysScript s) c.in-Done.is c.in_ok-outcome.ensures.plays in
@@ -39,8 +39,8 @@ returns-in_ok-print-in-Done c =
       again = c.in_ok-print-in-Done.ensures.report;
     }
 
-pub returns-in_ok-stall_report-in-Stalled : goal.returns-in_ok-stall_report-in-Stalled
-returns-in_ok-stall_report-in-Stalled c =
+pub returns-in_ok-stall_report-in-Stalled-clause-says : goal.returns-in_ok-stall_report-in-Stalled-clause-says
+returns-in_ok-stall_report-in-Stalled-clause-says c =
     let s = c.args.script.now in
     let r = c.in-Stalled.reached in
     let stall : IsStall s.opening s.commands s.turns c.in-Stalled.waiting r = subst (PlaysScript s) c.in-Stalled.is c.in_ok-outcome.ensures.plays in
