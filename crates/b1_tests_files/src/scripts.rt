@@ -138,7 +138,7 @@ fn a_reference_without_receipt(rt: HostRuntime) -> Result<(), Fail> {
     Ok(())
 }
 
-// What a reader makes of bytes in pieces of so many, and how many bytes it took.
+// What a reader makes of bytes in pieces of so many, one at least, and how many bytes it took.
 fn in_pieces(
     alloc: Global,
     bytes: &[u8],
@@ -146,7 +146,7 @@ fn in_pieces(
 ) -> Result<(ScriptReader, usize), AllocError> {
     let mut reader = ScriptReader::make(alloc);
     let mut taken = 0;
-    for piece in bytes.chunks(size) {
+    for piece in bytes.chunks(size.max(1)) {
         taken += reader.feed(piece)?;
     }
     Ok((reader, taken))
