@@ -147,7 +147,7 @@ fn in_pieces(
     let mut reader = ScriptReader::make(alloc);
     let mut taken = 0;
     for piece in bytes.chunks(size.max(1)) {
-        taken += reader.feed(piece)?;
+        taken = taken.saturating_add(reader.feed(piece)?);
     }
     Ok((reader, taken))
 }
