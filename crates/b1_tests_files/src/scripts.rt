@@ -145,7 +145,7 @@ fn in_pieces(
     size: usize,
 ) -> Result<(ScriptReader, usize), AllocError> {
     let mut reader = ScriptReader::make(alloc);
-    let mut taken = 0;
+    let mut taken = 0usize;
     for piece in bytes.chunks(size.max(1)) {
         taken = taken.saturating_add(reader.feed(piece)?);
     }
