@@ -114,6 +114,27 @@ def messages(count, checked):
     return data + sent_and_received(count) if checked else data
 
 
+def holes(count):
+    """Peer 1 gives every second of its slices back before as many messages come again as before."""
+    sends = send([2]) * count
+    await_one = struct.pack("<2I", 9, 0)
+    given_back = b"".join(struct.pack("<2IQ", 6, 0, 16 * k) for k in range(count // 2))
+    first = (2 * count + 1, sends + await_one + sends)
+    second = (count + count // 2 + 1, RECV * count + given_back + send([2]))
+    return script([peer(0), peer(1)], [wire(1, 4, 0), wire(0, 4, 1)], [first, second])
+
+
+def resets(count):
+    """In each epoch a node is made by a SEND that is refused at its destination, and destroyed, and its notice received."""
+    commands, calls = [], []
+    for k in range(1, count + 1):
+        commands += [send([2], [4 * k]), struct.pack("<4IQ", 5, 0, 1, 0, 4 * k), RECV, RESET]
+        calls += [f"send 0 to 2 with {4 * k} data - = refused EXFULL:512:8 at 0\n", f"destroy {4 * k} = destroyed {2 * k}\n"]
+        calls += [f"recv = destroyed {2 * k}.0.0 node {4 * k}\n", f"reset {BIG} {BIG} {BIG} = reset -\n"]
+    data = script([peer(0), peer(1, 8)], [wire(1, 4, 0)], [(4 * count, b"".join(commands)), (0, b"")])
+    return data + report([(count, 2 * count, calls), (0, 0, [])])
+
+
 def places(count):
     """SENDs of 64 places each, 16 at each of four peers, none of which receives before the drain."""
     one = send([2, 6, 10, 14] * 16)
@@ -154,6 +175,8 @@ INPUTS = {
     "nodes, check": ("check", lambda n: nodes(n, True), (MOST_SCRIPT - 200) // 544),
     "messages, play": ("play", lambda n: messages(n, False), MESSAGES),
     "messages, check": ("check", lambda n: messages(n, True), MESSAGES),
+    "holes, play": ("play", holes, (MOST_SCRIPT - 300) // 88),
+    "resets, check": ("check", resets, (MOST_SCRIPT - 200) // 96),
     "places, play": ("play", places, (MOST_SCRIPT - 300) // 536),
     "table, check": ("check", table, 500_000),
     "short lines, check": ("check", short_lines, (MOST_REPORT - 400) // 10),
