@@ -1,19 +1,18 @@
 -- What is held of an input, piece by piece, and what it is read as.
-use Rattle.std.proofs.Common.{◌≡◌, ◌≢◌, ◌⊎◌, ℕ, zero, suc, ◌+◌, ◌-◌, ◌<◌, ◌≤◌, List, [], ◌∷◌, ◌++◌, length, take, drop, slice_index_or, eqb, Bool, eq-eqb, None, Some, IfOk, Result, Ok, Err, refl, sym, ap, subst, ◌∙◌, arith, inl, inr}
+use Rattle.std.proofs.Common.{◌≡◌, ◌≢◌, ◌⊎◌, ℕ, zero, suc, ◌+◌, ◌-◌, ◌<◌, ◌≤◌, List, [], ◌∷◌, ◌++◌, length, take, drop, slice_index_or, Bool, eq-eqb, IfOk, Result, Ok, Err, refl, sym, ap, subst, ◌∙◌, arith, inl, inr}
 use Rattle.std.specs.List.{AllByRecursion}
 use Rattle.std.proofs.lemmas.Bool.{le-ltb, ne_eqb}
 use Rattle.std.proofs.lemmas.List.{append-nil, append_assoc, drop_at, length-append, length-drop, length-take, take-append-drop, take_all, take_at}
-use Rattle.b1_errs.specs.declared.Cause.{Cause}
 use Rattle.b1_errs.specs.declared.Cause.TheVariants as causes
 use Rattle.b1_errs.specs.declared.NotRead.{NotRead}
 use Rattle.b1_errs.specs.declared.NotRead.TheVariants.{Bad, Memory}
 use Rattle.b1_model.specs.declared.limits.TheConstants.{MOST_SCRIPT}
-use Rattle.b1_records.specs.Reading.{Fails, Fault, Gives, IsFault, Read, fault_of}
+use Rattle.b1_records.specs.Reading.{Fails, Fault, Gives, Read}
 use Rattle.b1_records.specs.Spelling.{IsByte}
 use Rattle.b1_records.proofs.Records.{each_byte}
 use Rattle.b1_script.specs.declared.script.Script.{Script}
 use Rattle.b1_script.specs.Pieces.{HasNoShorter, IsWholeScript}
-use Rattle.b1_script.specs.Reading.{bad_script, script_at, to_the_end, whole_at}
+use Rattle.b1_script.specs.Reading.{script_at, to_the_end, whole_at}
 use Rattle.b1_script.specs.Spelling.{IsScript, IsWhole, spelling}
 use Rattle.b1_script.proofs.Laws.{script_read, whole_answer, whole_read}
 use Rattle.b1_input.specs.Held.{Held, IsFront, IsHeld, held_bytes}
@@ -47,7 +46,7 @@ none_of old behind piece new (suc n) t whole =
     absurd (t.shorter.none (length old) (omega (arith, len)) (subst IsWholeScript (sym front) whole))
 
 -- the bytes stay together
-joined : (old behind piece new : List ℕ) (n count : ℕ) → Taken old behind piece new n → IsHeld old behind count → new ++ (behind ++ drop n piece) ≡ (old ++ behind) ++ piece
+pub joined : (old behind piece new : List ℕ) (n count : ℕ) → Taken old behind piece new n → IsHeld old behind count → new ++ (behind ++ drop n piece) ≡ (old ++ behind) ++ piece
 joined old behind piece new n count t held = elim held.whole [
   | inl none ↦
       rw (none, t.bytes) (append_assoc old (take n piece) (drop n piece) ∙ ap (λ (x : List ℕ). old ++ x) (take-append-drop n piece) ∙ ap (λ (x : List ℕ). x ++ piece) (sym (append-nil old)))
@@ -80,9 +79,6 @@ held_then old behind piece new n count t held bytes =
       bytes = subst (λ (x : List ℕ). AllByRecursion IsByte x) (sym (joined old behind piece new n count t held)) (more_bytes (old ++ behind) piece held.bytes bytes);
     }
 
-pub bytes_then : (old behind piece new : List ℕ) (n count : ℕ) → Taken old behind piece new n → IsHeld old behind count → new ++ (behind ++ drop n piece) ≡ (old ++ behind) ++ piece
-bytes_then old behind piece new n count t held = joined old behind piece new n count t held
-
 -- ---- fronts
 
 pub front_of : (front behind : List ℕ) (count : ℕ) (s : Script) → IsHeld front behind count → IsWhole front s → IsFront (front ++ behind) s count behind
@@ -109,18 +105,6 @@ left_of piece a = take_all (length piece - a) (drop a piece) (omega (arith, leng
 -- what is held is read as its script
 pub front_read : (front behind : List ℕ) (count : ℕ) (s : Script) → IsHeld front behind count → IsWhole front s → script_at MOST_SCRIPT (front ++ behind) ≡ Ok (s, count)
 front_read front behind count s held is = script_read (front ++ behind) s count (each_byte (front ++ behind) held.bytes) (front_of front behind count s held is).script
-
--- bytes that are no script, nor a front of one
-pub fault_read : (front behind : List ℕ) (count : ℕ) (why : NotRead) → IsHeld front behind count → IsFault why (bad_script front) → ((s : Script) → IsWhole front s → Gives {Y = Script} (λ x. x) (Err why) (Ok s)) → Fails why (script_at MOST_SCRIPT (front ++ behind))
-fault_read front behind count Memory held fault only = tt
-fault_read front behind count (Bad at cause) held fault only = elim held.whole [
-  | inl none ↦ subst (λ (x : List ℕ). script_at MOST_SCRIPT x ≡ Err (at, cause)) (sym (ap (λ (x : List ℕ). front ++ x) none ∙ append-nil front)) (fault_is (script_at MOST_SCRIPT front) at cause fault)
-  | inr whole ↦ absurd (cc (only whole.0 whole.1))
-]
-  where
-    fault_is : (r : Read Script) (at : ℕ) (cause : Cause) → fault_of r ≡ Some (at, cause) → r ≡ Err (at, cause)
-    fault_is (Ok x) at cause e = absurd (cc e)
-    fault_is (Err f) at cause e = cc e
 
 -- bytes that aren't too many are read as their front is
 whole_of : (bytes : List ℕ) (r : Read Script) → length bytes ≤ MOST_SCRIPT → script_at MOST_SCRIPT bytes ≡ r → whole_at bytes ≡ to_the_end bytes r

@@ -1,6 +1,6 @@
 use Rattle.std.proofs.Common.{◌≡◌, ◌++◌, ◌+◌, List, ℕ, drop, ap, subst, sym, ◌∙◌, arith}
 use Rattle.b1_input.specs.Held.{IsHeld}
-use Rattle.b1_input.proofs.Holding.{Taken, all_bytes, bytes_then, held_then, left_of}
+use Rattle.b1_input.proofs.Holding.{Taken, all_bytes, held_then, joined, left_of}
 use Rattle.b1_input.proofs.input.take_apart.Goals as goal
 
 pub returns-clause-held : goal.returns-clause-held
@@ -25,4 +25,4 @@ returns-clause-bytes c =
     let k = c.in_ok-taken.ensures in
     let t : Taken old behind piece c.feed.new.self.bytes n = record { within = k.within; bytes = k.bytes; all = k.all; shorter = k.shorter } in
     let rest : c.extend_from_slice.new.self.items ≡ behind ++ drop n piece = c.in_ok-extend_from_slice.ensures.items ∙ ap (λ (x : List ℕ). behind ++ x) (left_of piece n) in
-    ap (λ (x : List ℕ). c.feed.new.self.bytes ++ x) rest ∙ bytes_then old behind piece c.feed.new.self.bytes n c.args.count.now t c.requires
+    ap (λ (x : List ℕ). c.feed.new.self.bytes ++ x) rest ∙ joined old behind piece c.feed.new.self.bytes n c.args.count.now t c.requires
