@@ -1,15 +1,17 @@
 -- A generated script has a spelling, which is short.
-use Rattle.std.proofs.Common.{◌≡◌, ℕ, ◌+◌, ◌-◌, ◌*◌, ◌%◌, ◌≤◌, List, [], ◌∷◌, ◌++◌, map, length, refl, sym, ◌∙◌, arith, subst, length-append}
+use Rattle.std.proofs.Common.{◌≡◌, ℕ, ◌+◌, ◌-◌, ◌*◌, ◌%◌, ◌≤◌, List, [], ◌∷◌, ◌++◌, map, length, true, leb, refl, sym, ◌∙◌, arith, subst, length-append}
 use Rattle.std.specs.Prelude.{replicate}
 use Rattle.std.specs.List.{flat_map, range_with_len, AllByRecursion}
+use Rattle.std.proofs.lemmas.Bool.{le-leb}
 use Rattle.std.proofs.lemmas.List.{length-map, length-replicate}
 use Rattle.std.proofs.lemmas.List.FromFn.{length-range_with_len}
 use Rattle.b1_model.specs.declared.commands.Command.{Command}
+use Rattle.b1_model.specs.declared.limits.TheConstants.{FEW_PEERS}
 use Rattle.b1_model.specs.declared.naming.Opening.{Opening}
 use Rattle.b1_wire.specs.Numbers.{u64_bytes}
 use Rattle.b1_records.specs.Spelling.{IsWithin, padded, rounded}
 use Rattle.b1_records.specs.Spelling as records
-use Rattle.b1_script.specs.Spelling.{peer_spelling, wire_spelling, commands_spelling, HasSpelling}
+use Rattle.b1_script.specs.Spelling.{peer_spelling, wire_spelling, commands_spelling, most_len, HasSpelling}
 use Rattle.b1_gen.specs.Generated.{below, peer_count, peer_spec, opening_of, partners, handle_at, payload_len, payload_of, sending, taking, taken_before, phase_commands, commands_before, commands_of, generated}
 use Rattle.b1_gen.proofs.Rising.{filter-few}
 use Rattle.b1_gen.proofs.Each.{each-map, each-flat_map, each-range, each-below, flat_map-most}
@@ -111,7 +113,7 @@ list_size number p =
 
 -- an opening with few peers and wires, and lists of commands with short spellings
 is_short : (n : ℕ) (o : Opening) (lists : List (List Command)) → n ≤ 8 → length o.peers ≡ n → length o.wires ≤ n * n → length lists ≡ n → AllByRecursion (λ cs. length (commands_spelling cs) ≤ 691976) lists
-    → 40 + length (flat_map peer_spelling o.peers ++ flat_map wire_spelling o.wires ++ flat_map commands_spelling lists ++ [] ++ []) ≤ 16777216
+    → 40 + length (flat_map peer_spelling o.peers ++ flat_map wire_spelling o.wires ++ flat_map commands_spelling lists ++ [] ++ []) ≤ most_len (length o.peers)
 is_short n o lists few peers wires many sizes =
     let product : n * n ≤ 64 = squares n few in
     let a : List ℕ = flat_map peer_spelling o.peers in
@@ -124,7 +126,8 @@ is_short n o lists few peers wires many sizes =
     let e2 : length (a ++ b ++ c) ≡ length (a ++ b) + length c = length-append (a ++ b) c in
     let e3 : length (a ++ b ++ c ++ []) ≡ length (a ++ b ++ c) + 0 = length-append (a ++ b ++ c) [] in
     let e4 : length (a ++ b ++ c ++ [] ++ []) ≡ length (a ++ b ++ c ++ []) + 0 = length-append (a ++ b ++ c ++ []) [] in
-    omega arith
+    let long : leb (length o.peers) FEW_PEERS ≡ true = le-leb (length o.peers) FEW_PEERS (omega arith) in
+    rw long (omega arith)
   where
     each-of : {A : Type 0} {P : A → Type 0} (xs : List A) → ((x : A) → P x) → AllByRecursion P xs
     each-of [] h = tt
@@ -142,7 +145,7 @@ has_spelling number =
       lists = lists ∙ sym peers;
       commands = each-map (AllByRecursion IsWithin) (commands_of number) (below n) (each-below _ n (λ p high. all_within (commands_of number p) (short_commands number p)));
       turns = tt;
-      cookies = refl;
+      cookies = tt;
       short = is_short n (opening_of n) (map (commands_of number) (below n)) few peers (few_wires n) lists
           (each-map (λ cs. length (commands_spelling cs) ≤ 691976) (commands_of number) (below n) (each-below _ n (λ p high. list_size number p)));
     }

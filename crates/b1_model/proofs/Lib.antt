@@ -3,4 +3,3 @@ mod StableSort
 mod BusOrder
 mod PeerLemmas
 pub mod HeldLemmas
-pub mod Pools

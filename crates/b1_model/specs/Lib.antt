@@ -4,6 +4,7 @@ pub mod Names
 pub mod Ledger
 pub mod Legal
 pub mod Script
+pub mod Versions
 pub mod Opening
 pub mod Held
 pub mod MachineParts

@@ -17,6 +17,7 @@ mod parts;
 mod peers;
 mod records;
 mod tables;
+mod version;
 
 pub use answers::{Answer, Front, Places, Quantity, Reason, Receipt, Refused, Sent, Tried, errno};
 pub use commands::{Command, CommandLists, Commands, CookieLists, SendCmd};
@@ -24,9 +25,9 @@ pub use entries::{Charge, Entry};
 pub use events::{Action, Destruction, Doing, Outcome, OwedDrop, Phase, Sending, SlotLists};
 pub use held::Held;
 pub use limits::{
-    CLOCK_LIMIT, INVALID, MOST_BYTES, MOST_CHECKED, MOST_DESTINATIONS, MOST_FILE_PEERS,
-    MOST_HANDLES, MOST_NUMBERS, MOST_PAYLOAD, MOST_PEERS, MOST_POOL, MOST_POOLS, MOST_SCRIPT,
-    MOST_TEXT, NO_ORIGIN, WIRE_LIMIT,
+    CLOCK_LIMIT, FEW_PEERS, INVALID, MOST_BYTES, MOST_CHECKED, MOST_DESTINATIONS, MOST_HANDLES,
+    MOST_NUMBERS, MOST_PAYLOAD, MOST_PEERS, MOST_POOL, MOST_POOLS, MOST_SCRIPT, MOST_TEXT,
+    MOST_WIDE_SCRIPT, NO_ORIGIN, WIRE_LIMIT,
 };
 pub use lists::{Bytes, Items, Nums, Nums32};
 pub use naming::{Key, Limits, NodeRef, Opening, PeerSpec, Peers, Wire, Wires, key_cmp};
@@ -38,3 +39,4 @@ pub use parts::{
 pub use peers::PeerSet;
 pub use records::{Call, Calls, PeerCalls, PeerLists, Record, Stamp, Stamps};
 pub use tables::Usage;
+pub use version::Version;

@@ -3,8 +3,8 @@
 /// The most peers of a bus.
 pub const MOST_PEERS: usize = 1024;
 
-/// The most peers in a script, in its text and in its report, as files spell them today.
-pub const MOST_FILE_PEERS: usize = 64;
+/// The most peers of a script of version 1. A script of version 2 that has more is shorter, see `MOST_WIDE_SCRIPT`.
+pub const FEW_PEERS: usize = 64;
 
 /// The greatest pool, in bytes.
 pub const MOST_POOL: u32 = 4_194_304;
@@ -41,6 +41,9 @@ pub const MOST_BYTES: u32 = 1_048_576;
 
 /// The most bytes of a script.
 pub const MOST_SCRIPT: usize = 16_777_216;
+
+/// The most bytes of a script with more than `FEW_PEERS` peers.
+pub const MOST_WIDE_SCRIPT: usize = 1_048_576;
 
 /// The most bytes of a script's text.
 pub const MOST_TEXT: usize = 67_108_864;

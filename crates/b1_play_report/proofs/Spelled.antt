@@ -28,7 +28,9 @@ use Rattle.b1_schedule.specs.Shortage.{Shortage, no_shortage, shortage_of}
 use Rattle.b1_schedule.specs.Schedule.{Finished, Stalled, Playing, moves, start_of, IsPlay, IsStall}
 use Rattle.b1_play_commands.specs.Following.{AllInPlace}
 use Rattle.b1_report.specs.Report.{IsAnswer, IsWritten, HasSpelling, EachSpelled}
-use Rattle.b1_play_report.specs.Limits.{IsNotLimit, NoLimits}
+use Rattle.b1_play_report.specs.Limits.{IsTold, AreTold}
+use Rattle.b1_model.specs.declared.version.Version.{Version}
+use Rattle.b1_model.specs.declared.version.Version.TheVariants.{One, Two}
 use Rattle.b1_play_commands.proofs.Recorded.{recorded_in_place}
 use Rattle.b1_play_commands.proofs.Plays.{Plays, plays}
 
@@ -45,20 +47,53 @@ get_all P (y ∷ ys) (suc k) x all is = get_all P ys k x all.1 is
 
 -- ---- one call
 
--- the command of a place is none that sets limits alone
-abbrev NextIs : Option Command → Type 0
-NextIs None = ⊤
-NextIs (Some command) = IsNotLimit command
+-- the command of a place is one that a report of the version can tell
+abbrev NextIs : Version → Option Command → Type 0
+NextIs version None = ⊤
+NextIs version (Some command) = IsTold version command
 
 -- what is recorded for it has a name, and an answer of its kind
-abbrev IsOfKind : Call → Type 0
-IsOfKind call = IsWritten call.command × (fits call.command call.answer ≡ true)
+abbrev IsOfKind : Version → Call → Type 0
+IsOfKind version call = IsWritten version call.command × (fits call.command call.answer ≡ true)
 
-named_by : (calls : List Call) (call : Call) (command : Command) → IsWritten (resolved command calls) → (call.command ≡ resolved command calls) → (fits call.command call.answer ≡ true) → IsOfKind call
-named_by calls call command named same is = (subst IsWritten (sym same) named, is)
+-- a command that can be told, and isn't an AWAIT, has a name with its references resolved
+names_one : (command : Command) (calls : List Call) → IsTold One command → (command ≡ cmd.Await → ⊥) → IsWritten One (resolved command calls)
+names_one cmd.Disconnect calls told other = tt
+names_one cmd.Query calls told other = tt
+names_one (cmd.Reset limits) calls told other = tt
+names_one (cmd.Limit limits) calls told other = absurd told
+names_one (cmd.Release number) calls told other = tt
+names_one (cmd.Destroy numbers) calls told other = tt
+names_one (cmd.SliceRelease offset) calls told other = tt
+names_one (cmd.Send c) calls told other = tt
+names_one cmd.Recv calls told other = tt
+names_one cmd.Await calls told other = absurd (other refl)
 
-recv_kind : (call : Call) → call.command ≡ cmd.Recv → fits cmd.Recv call.answer ≡ true → IsOfKind call
-recv_kind call same is = (subst IsWritten (sym same) tt, ap (λ c. fits c call.answer) same ∙ is)
+names_two : (command : Command) (calls : List Call) → (command ≡ cmd.Await → ⊥) → IsWritten Two (resolved command calls)
+names_two cmd.Disconnect calls other = tt
+names_two cmd.Query calls other = tt
+names_two (cmd.Reset limits) calls other = tt
+names_two (cmd.Limit limits) calls other = tt
+names_two (cmd.Release number) calls other = tt
+names_two (cmd.Destroy numbers) calls other = tt
+names_two (cmd.SliceRelease offset) calls other = tt
+names_two (cmd.Send c) calls other = tt
+names_two cmd.Recv calls other = tt
+names_two cmd.Await calls other = absurd (other refl)
+
+names : (version : Version) (command : Command) (calls : List Call) → IsTold version command → (command ≡ cmd.Await → ⊥) → IsWritten version (resolved command calls)
+names One command calls told other = names_one command calls told other
+names Two command calls told other = names_two command calls other
+
+named_by : (version : Version) (calls : List Call) (call : Call) (command : Command) → IsTold version command → (command ≡ cmd.Await → ⊥) → (call.command ≡ resolved command calls) → (fits call.command call.answer ≡ true) → IsOfKind version call
+named_by version calls call command told other same is = (subst (IsWritten version) (sym same) (names version command calls told other), is)
+
+recv_written : (version : Version) → IsWritten version cmd.Recv
+recv_written One = tt
+recv_written Two = tt
+
+recv_kind : (version : Version) (call : Call) → call.command ≡ cmd.Recv → fits cmd.Recv call.answer ≡ true → IsOfKind version call
+recv_kind version call same is = (subst (IsWritten version) (sym same) (recv_written version), ap (λ c. fits c call.answer) same ∙ is)
 
 ends_fits : (got : Answer) → ends_await got ≡ true → fits cmd.Recv got ≡ true
 ends_fits (answer.Got receipt) is = refl
@@ -69,18 +104,18 @@ receipt_fits : (got : Answer) → is_receipt got ≡ true → fits cmd.Recv got 
 receipt_fits (answer.Got receipt) is = refl
 receipt_fits got is = absurd (cc is)
 
-of_kind : (calls : List Call) (next : Option Command) (call : Call) → NextIs next → IsInPlace calls next (Some call) → IsOfKind call
-of_kind calls None call none placed = recv_kind call placed.0 (receipt_fits call.answer placed.1)
-of_kind calls (Some cmd.Await) call none placed = recv_kind call placed.0 (ends_fits call.answer placed.1)
-of_kind calls (Some (cmd.Limit limits)) call none placed = absurd none
-of_kind calls (Some cmd.Disconnect) call none placed = named_by calls call cmd.Disconnect tt placed.0 placed.1
-of_kind calls (Some cmd.Query) call none placed = named_by calls call cmd.Query tt placed.0 placed.1
-of_kind calls (Some (cmd.Reset limits)) call none placed = named_by calls call (cmd.Reset limits) tt placed.0 placed.1
-of_kind calls (Some (cmd.Release number)) call none placed = named_by calls call (cmd.Release number) tt placed.0 placed.1
-of_kind calls (Some (cmd.Destroy numbers)) call none placed = named_by calls call (cmd.Destroy numbers) tt placed.0 placed.1
-of_kind calls (Some (cmd.SliceRelease offset)) call none placed = named_by calls call (cmd.SliceRelease offset) tt placed.0 placed.1
-of_kind calls (Some (cmd.Send c)) call none placed = named_by calls call (cmd.Send c) tt placed.0 placed.1
-of_kind calls (Some cmd.Recv) call none placed = named_by calls call cmd.Recv tt placed.0 placed.1
+of_kind : (version : Version) (calls : List Call) (next : Option Command) (call : Call) → NextIs version next → IsInPlace calls next (Some call) → IsOfKind version call
+of_kind version calls None call told placed = recv_kind version call placed.0 (receipt_fits call.answer placed.1)
+of_kind version calls (Some cmd.Await) call told placed = recv_kind version call placed.0 (ends_fits call.answer placed.1)
+of_kind version calls (Some (cmd.Limit limits)) call told placed = named_by version calls call (cmd.Limit limits) told (λ e. cc e) placed.0 placed.1
+of_kind version calls (Some cmd.Disconnect) call told placed = named_by version calls call cmd.Disconnect told (λ e. cc e) placed.0 placed.1
+of_kind version calls (Some cmd.Query) call told placed = named_by version calls call cmd.Query told (λ e. cc e) placed.0 placed.1
+of_kind version calls (Some (cmd.Reset limits)) call told placed = named_by version calls call (cmd.Reset limits) told (λ e. cc e) placed.0 placed.1
+of_kind version calls (Some (cmd.Release number)) call told placed = named_by version calls call (cmd.Release number) told (λ e. cc e) placed.0 placed.1
+of_kind version calls (Some (cmd.Destroy numbers)) call told placed = named_by version calls call (cmd.Destroy numbers) told (λ e. cc e) placed.0 placed.1
+of_kind version calls (Some (cmd.SliceRelease offset)) call told placed = named_by version calls call (cmd.SliceRelease offset) told (λ e. cc e) placed.0 placed.1
+of_kind version calls (Some (cmd.Send c)) call told placed = named_by version calls call (cmd.Send c) told (λ e. cc e) placed.0 placed.1
+of_kind version calls (Some cmd.Recv) call told placed = named_by version calls call cmd.Recv told (λ e. cc e) placed.0 placed.1
 
 -- an answer of the command's kind has a text, where a destroy notice names a node
 has_text : (command : Command) (got : Answer) → fits command got ≡ true → NamesNode got → IsAnswer command got
@@ -106,7 +141,7 @@ call_has command got call h names = at (is_waiting command got) h
     at false (inl same) = subst (λ c. NamesNode c.answer) (sym same) names
     at false (inr h) = absurd h
 
-module _ (d : DriverPart) (named : NoticesNamed d) where
+module _ (version : Version) (d : DriverPart) (named : NoticesNamed d) where
   open_names : (doing : Option Doing) → d.doing ≡ doing → (call : Call) → Has (open_by doing) call → NamesNode call.answer
   open_names None is call h = absurd h
   open_names (Some doing) is call h = at (answer_of doing.command doing.phase) refl h
@@ -119,44 +154,44 @@ module _ (d : DriverPart) (named : NoticesNamed d) where
   calls_name call h = elim (has_append d.calls (open_by d.doing) call h) [ inl old ↦ named.calls call old | inr new ↦ open_names d.doing refl call new ]
 
   -- the calls that stand in a record for the driver
-  calls_spelled : (commands : List Command) → AllByRecursion IsNotLimit commands → AllInPlace commands (driver_calls d) → All HasSpelling (driver_calls d)
+  calls_spelled : (commands : List Command) → AllByRecursion (IsTold version) commands → AllInPlace commands (driver_calls d) → All (HasSpelling version) (driver_calls d)
   calls_spelled commands none placed =
-      all_get HasSpelling (driver_calls d)
+      all_get (HasSpelling version) (driver_calls d)
       (λ k call is.
-      let kind = of_kind (take k (driver_calls d)) (slice_get commands k) call (next_is (slice_get commands k) (λ c there. get_all IsNotLimit commands k c none there)) (placed k call is) in
+      let kind = of_kind version (take k (driver_calls d)) (slice_get commands k) call (next_is (slice_get commands k) (λ c there. get_all (IsTold version) commands k c none there)) (placed k call is) in
       (kind.0, has_text call.command call.answer kind.1 (calls_name call (has_at (driver_calls d) k call is))))
     where
-      next_is : (next : Option Command) → ((c : Command) → next ≡ Some c → IsNotLimit c) → NextIs next
+      next_is : (next : Option Command) → ((c : Command) → next ≡ Some c → IsTold version c) → NextIs version next
       next_is None each = tt
       next_is (Some c) each = each c refl
 
 -- ---- a state
 
-records_spelled : (xs : List PeerPart) (ds : List DriverPart) → ((p : ℕ) (d : DriverPart) → slice_get ds p ≡ Some d → calls_in (slice_get (peer_records xs ds) p) ≡ driver_calls d → All HasSpelling (driver_calls d)) → All (λ (x : PeerCalls). All HasSpelling x.calls) (peer_records xs ds)
-records_spelled [] ds each = All-nil (λ (x : PeerCalls). All HasSpelling x.calls)
-records_spelled (x ∷ xs) [] each = All-nil (λ (y : PeerCalls). All HasSpelling y.calls)
-records_spelled (x ∷ xs) (d ∷ ds) each = All-cons (λ (y : PeerCalls). All HasSpelling y.calls) _ (peer_records xs ds) (each 0 d refl refl) (records_spelled xs ds (λ p e is same. each (suc p) e is same))
+records_spelled : (version : Version) (xs : List PeerPart) (ds : List DriverPart) → ((p : ℕ) (d : DriverPart) → slice_get ds p ≡ Some d → calls_in (slice_get (peer_records xs ds) p) ≡ driver_calls d → All (HasSpelling version) (driver_calls d)) → All (λ (x : PeerCalls). All (HasSpelling version) x.calls) (peer_records xs ds)
+records_spelled version [] ds each = All-nil (λ (x : PeerCalls). All (HasSpelling version) x.calls)
+records_spelled version (x ∷ xs) [] each = All-nil (λ (y : PeerCalls). All (HasSpelling version) y.calls)
+records_spelled version (x ∷ xs) (d ∷ ds) each = All-cons (λ (y : PeerCalls). All (HasSpelling version) y.calls) _ (peer_records xs ds) (each 0 d refl refl) (records_spelled version xs ds (λ p e is same. each (suc p) e is same))
 
-commands_none : (lists : List (List Command)) (p : ℕ) → NoLimits lists → AllByRecursion IsNotLimit (commands_of lists p)
-commands_none [] p none = tt
-commands_none (commands ∷ rest) zero none = none.0
-commands_none (commands ∷ rest) (suc p) none = commands_none rest p none.1
+commands_none : (version : Version) (lists : List (List Command)) (p : ℕ) → AreTold version lists → AllByRecursion (IsTold version) (commands_of lists p)
+commands_none version [] p none = tt
+commands_none version (commands ∷ rest) zero none = none.0
+commands_none version (commands ∷ rest) (suc p) none = commands_none version rest p none.1
 
 -- a reached state whose record has calls of the lists alone, each in its place
-pub reached_spelled : (o : Opening) (lists : List (List Command)) (s : State) → IsOpening o → NoLimits lists → Reached o s → ((p : ℕ) → AllInPlace (commands_of lists p) (calls_of (record_of_state s) p)) → EachSpelled (record_of_state s).peers
-reached_spelled o lists s valid none reached placed =
+pub reached_spelled : (version : Version) (o : Opening) (lists : List (List Command)) (s : State) → IsOpening o → AreTold version lists → Reached o s → ((p : ℕ) → AllInPlace (commands_of lists p) (calls_of (record_of_state s) p)) → EachSpelled version (record_of_state s).peers
+reached_spelled version o lists s valid none reached placed =
     let sound = reached_sound o s valid reached in
-    records_spelled s.peers s.drivers
-    (λ p d is_driver same. calls_spelled d (sound.receipts.named p d is_driver) (commands_of lists p) (commands_none lists p none) (subst (AllInPlace (commands_of lists p)) same (placed p)))
+    records_spelled version s.peers s.drivers
+    (λ p d is_driver same. calls_spelled version d (sound.receipts.named p d is_driver) (commands_of lists p) (commands_none version lists p none) (subst (AllInPlace (commands_of lists p)) same (placed p)))
 
-module _ (o : Opening) (lists : List (List Command)) (turns : List ℕ) (valid : IsOpening o) (none : NoLimits lists) where
-  came_to : (m : Shortage) (count : ℕ) (end : Playing) → moves o lists m count (start_of o turns) ≡ end → EachSpelled (record_of_state end.state).peers
+module _ (version : Version) (o : Opening) (lists : List (List Command)) (turns : List ℕ) (valid : IsOpening o) (none : AreTold version lists) where
+  came_to : (m : Shortage) (count : ℕ) (end : Playing) → moves o lists m count (start_of o turns) ≡ end → EachSpelled version (record_of_state end.state).peers
   came_to m count end is =
       let k = subst (Plays o lists) is (plays o lists m (λ s reached. reached_sound o s valid reached) turns count) in
-      reached_spelled o lists end.state valid none k.follow.reached (λ p. recorded_in_place lists end.state p k.follow.all)
+      reached_spelled version o lists end.state valid none k.follow.reached (λ p. recorded_in_place lists end.state p k.follow.all)
 
-  pub played_spelled : (r : Record) → IsPlay o lists turns r → EachSpelled r.peers
-  played_spelled r play = subst (λ z. EachSpelled z.peers) (sym play.record_is) (came_to (shortage_of r) play.comes.count (record { state = play.state; stage = Finished }) play.comes.is_at)
+  pub played_spelled : (r : Record) → IsPlay o lists turns r → EachSpelled version r.peers
+  played_spelled r play = subst (λ z. EachSpelled version z.peers) (sym play.record_is) (came_to (shortage_of r) play.comes.count (record { state = play.state; stage = Finished }) play.comes.is_at)
 
-  pub stalled_spelled : (waiting : List ℕ) (r : Record) → IsStall o lists turns waiting r → EachSpelled r.peers
-  stalled_spelled waiting r stall = subst (λ z. EachSpelled z.peers) (sym stall.record_is) (came_to no_shortage stall.comes.count (record { state = stall.state; stage = Stalled }) stall.comes.is_at)
+  pub stalled_spelled : (waiting : List ℕ) (r : Record) → IsStall o lists turns waiting r → EachSpelled version r.peers
+  stalled_spelled waiting r stall = subst (λ z. EachSpelled version z.peers) (sym stall.record_is) (came_to no_shortage stall.comes.count (record { state = stall.state; stage = Stalled }) stall.comes.is_at)

@@ -1,6 +1,5 @@
 -- Records with a cookie: what is read is spelled so, and what is spelled so is read.
-use Rattle.std.proofs.Common.{◌≡◌, ◌≢◌, ℕ, ◌<◌, ◌≤◌, ◌+◌, Bool, true, false, cond, ltb, eqb, leb, List, [], ◌++◌, length, Option, Some, None, Result, Ok, Err, IfOk, refl, sym, ap, subst, ◌∙◌, arith}
-use Rattle.std.specs.List.{AllByRecursion}
+use Rattle.std.proofs.Common.{◌≡◌, ℕ, ◌≤◌, ◌+◌, Bool, true, false, cond, ltb, eqb, leb, List, [], ◌++◌, length, Some, None, Result, Ok, Err, IfOk, refl, sym, ap, subst, ◌∙◌, arith}
 use Rattle.std.proofs.lemmas.Bool.{ltb-false}
 use Rattle.std.specs.Int.{w32, from_le_bytes}
 use Rattle.std.proofs.lemmas.List.{append-nil}
@@ -13,10 +12,10 @@ use Rattle.b1_model.specs.declared.naming.Limits.{Limits}
 use Rattle.b1_records.specs.declared.kinds.Kind.{Kind}
 use Rattle.b1_records.specs.declared.kinds.Kind.TheVariants as kinds
 use Rattle.b1_wire.specs.Numbers.{u32_bytes, u64_bytes}
-use Rattle.b1_records.specs.Spelling.{IsByte, IsWithin, IsWithin2, IsRecord2, HasNumbers, AreLimits, Is64, Stands, code_of, flags_of, kind_of_command, has_flag, body_spelling, limits_spelling, spelling2}
-use Rattle.b1_records.specs.Reading.{◌>>=◌, Read, Fault, Gives, fault_of, known, number_at, long_number_at, field_at, kind_of, kind_at, flag_of, flag_at, goes_on_of, reset_at, limits_at, body_at, body2_at, command2_at, bad_record2}
+use Rattle.b1_records.specs.Spelling.{IsWithin, IsWithin2, IsRecord2, HasNumbers, AreLimits, Is64, Stands, code_of, flags_of, kind_of_command, has_flag, body_spelling, limits_spelling, spelling2}
+use Rattle.b1_records.specs.Reading.{◌>>=◌, Read, Gives, fault_of, known, number_at, long_number_at, field_at, kind_of, kind_at, flag_of, flag_at, reset_at, limits_at, body_at, body2_at, command2_at, bad_record2}
 use Rattle.b1_records.proofs.Formats.{IsBytes, IsFormat, bind_ok, done, guard_ok, ok_is, convert, pure_format, seq_format, number_format, long_number_format}
-use Rattle.b1_records.proofs.Records.{CanGoOn, IsBody, Took, body_takes, body_again, body_text, command_kind, command_goes_on, fault_or_value, flags_known, kind_format, known_ok, limits_format, mapped_takes, one_known, small_flags}
+use Rattle.b1_records.proofs.Records.{CanGoOn, IsBody, body_takes, body_again, body_text, command_kind, command_goes_on, fault_or_value, flags_known, kind_format, known_ok, limits_format, mapped_takes, one_known, small_flags}
 
 -- ---- flags
 

@@ -12,34 +12,35 @@ use Rattle.b1_report_lines.specs.declared.lines.Place.TheVariants as place
 use Rattle.b1_report_lines.specs.declared.unread.Stop.TheVariants.{Cut}
 use Rattle.b1_report_lines.specs.declared.unread.Unread.{Unread}
 use Rattle.b1_report_lines.specs.declared.unread.Unread.TheVariants as unread
-use Rattle.b1_report_lines.specs.Lines.{line_text, next_place, IsOnlyLine, BeginLine}
+use Rattle.b1_report_lines.specs.Lines.{Cookies, line_text, next_place, IsOnlyLine, BeginLine}
 use Rattle.b1_report.specs.declared.drafts.Draft.{Draft}
 
 -- lines that lead from one place to another, each of them the only line that its bytes are
-abbrev pub IsRun : ℕ → Place → List lines.Line → Place → Type 0
-IsRun peers spot [] end = spot ≡ end
-IsRun peers spot (l ∷ ls) end = IsOnlyLine peers spot (line_text peers spot l) l × IsRun peers (next_place spot l) ls end
+abbrev pub IsRun : Cookies → ℕ → Place → List lines.Line → Place → Type 0
+IsRun cookies peers spot [] end = spot ≡ end
+IsRun cookies peers spot (l ∷ ls) end = IsOnlyLine cookies peers spot (line_text cookies peers spot l) l × IsRun cookies peers (next_place spot l) ls end
 
 -- their text
-abbrev pub run_text : ℕ → Place → List lines.Line → List ℕ
-run_text peers spot [] = []
-run_text peers spot (l ∷ ls) = line_text peers spot l ++ 10 ∷ run_text peers (next_place spot l) ls
+abbrev pub run_text : Cookies → ℕ → Place → List lines.Line → List ℕ
+run_text cookies peers spot [] = []
+run_text cookies peers spot (l ∷ ls) = line_text cookies peers spot l ++ 10 ∷ run_text cookies peers (next_place spot l) ls
 
 -- the bytes are these lines, to the end of a report
-pub record AreAllLines (peers : ℕ) (bytes : List ℕ) (ls : List lines.Line) : Type 0 where
-  pub run : IsRun peers place.Header ls place.Done
-  pub same : bytes ≡ run_text peers place.Header ls
+pub record AreAllLines (cookies : Cookies) (peers : ℕ) (bytes : List ℕ) (ls : List lines.Line) : Type 0 where
+  pub run : IsRun cookies peers place.Header ls place.Done
+  pub same : bytes ≡ run_text cookies peers place.Header ls
 
--- a place behind a peer of which the next is still counted
+-- a place behind which one more peer, or one more call, is still counted
 abbrev pub CanFollow : Place → lines.Line → Type 0
-CanFollow (place.Peers begun) (line.Peer epoch clock) = begun + 1 < 2 ^ 32
+CanFollow (place.Peers begun calls) (line.Peer epoch clock) = begun + 1 < 2 ^ 32
+CanFollow (place.Peers begun calls) (line.Call call) = calls + 1 < 2 ^ 64
 CanFollow spot next = Unit {0}
 
 -- why the last line, which has no line feed, isn't whole
-abbrev pub TellsUnfinished : ℕ → Place → List ℕ → ℕ → NotRead → Type 0
-TellsUnfinished peers spot left at (Bad place Line) = ((place ≡ at) × ¬ (BeginLine peers spot left)) ⊎ ((place ≡ at + length left) × BeginLine peers spot left)
-TellsUnfinished peers spot left at (Bad place cause) = ⊥
-TellsUnfinished peers spot left at Memory = Unit {0}
+abbrev pub TellsUnfinished : Cookies → ℕ → Place → List ℕ → ℕ → NotRead → Type 0
+TellsUnfinished cookies peers spot left at (Bad place Line) = ((place ≡ at) × ¬ (BeginLine cookies peers spot left)) ⊎ ((place ≡ at + length left) × BeginLine cookies peers spot left)
+TellsUnfinished cookies peers spot left at (Bad place cause) = ⊥
+TellsUnfinished cookies peers spot left at Memory = Unit {0}
 
 -- a last line that could be whole with a line feed is cut too
 abbrev pub cut_short : Result lines.Line Unread → Unread
@@ -73,7 +74,7 @@ abbrev pub drafted : Draft → List lines.Line → List PeerCalls
 drafted d ls = d.peers.items ++ (opened d.begun (d.calls.items ++ front_calls ls) ++ gathered ls)
 
 -- what all lines of the bytes come to
-pub record IsDrafted (peers : ℕ) (bytes : List ℕ) (draft : Draft) : Type 0 where
+pub record IsDrafted (cookies : Cookies) (peers : ℕ) (bytes : List ℕ) (draft : Draft) : Type 0 where
   pub all : List lines.Line
-  pub are : AreAllLines peers bytes all
+  pub are : AreAllLines cookies peers bytes all
   pub same : drafted draft [] ≡ gathered all

@@ -1,13 +1,13 @@
 -- Decimal numbers are read exactly.
 use Rattle.std.specs.Prelude.{codes}
-use Rattle.std.proofs.Common.{◌≡◌, ℕ, ◌+◌, ◌*◌, ◌-◌, ◌/◌, ◌%◌, ◌^◌, ◌<◌, ◌≤◌, Bool, true, false, cond, not, ◌&&◌, ◌||◌, eqb, ltb, List, [], ◌∷◌, ◌++◌, length, get_or, Ok, Err, refl, sym, ap, subst, ◌∙◌, arith, inl, inr, ◌⊎◌, eq-eqb}
-use Rattle.std.proofs.lemmas.Bool.Decides.{eqb_tells}
+use Rattle.std.proofs.Common.{◌≡◌, ℕ, zero, suc, ◌+◌, ◌*◌, ◌-◌, ◌/◌, ◌%◌, ◌^◌, ◌<◌, ◌≤◌, Bool, true, false, cond, not, ◌&&◌, ◌||◌, eqb, ltb, List, [], ◌∷◌, ◌++◌, length, get_or, Ok, Err, refl, sym, ap, subst, ◌∙◌, arith, inl, inr, ◌⊎◌, eq-eqb}
+use Rattle.std.proofs.lemmas.Bool.Decides.{eqb_tells, nat_tests}
 use Rattle.std.proofs.lemmas.Bool.{eqb-true, ltb-true, ltb-false, lt-ltb}
 use Rattle.std.proofs.lemmas.List.{append_assoc, append-nil, length-append, take_at}
 use Rattle.std.proofs.lemmas.Int.Digits.{digits_value_push}
 use Rattle.std.proofs.lemmas.Str.Parse.{IsNumeralModel, numerals_by_value, tells_all_ascii_digits, digits_value-take-le}
 use Rattle.std.proofs.lemmas.Fmt.{decimal_digit, decimal_step, decimal_nonempty, first_decimal, digits_decimal, digits_value-decimal, decimal-digits_value}
-use Rattle.std.specs.Fmt.{decimal}
+use Rattle.std.specs.Fmt.{decimal, digits, digits_onto, digit_glyph}
 use Rattle.std.specs.Str.{all_ascii_digits}
 use Rattle.std.specs.Str.Parse.{digits_value}
 use Rattle.b1_text_words.specs.Numbers.{invalid, number_text}
@@ -151,6 +151,24 @@ digits_free mark (c ∷ cs) h k = free_cons mark c cs (no_digit mark c h (digit_
 
 pub decimal_free : (mark n : ℕ) → (mark < 48) ⊎ (57 < mark) → n < 2 ^ 64 → IsFree mark (decimal n)
 decimal_free mark n h small = digits_free mark (decimal n) h (digits_decimal own n small)
+
+glyph_range : (n : ℕ) → (48 ≤ digit_glyph false (n % 10)) × (digit_glyph false (n % 10) ≤ 57)
+glyph_range n = grind (arith, nat_tests)
+
+onto_free : (mark : ℕ) → (mark < 48) ⊎ (57 < mark) → (k n : ℕ) (ds : List ℕ) → IsFree mark ds → IsFree mark (digits_onto k 10 false n ds)
+onto_free mark h zero n ds free = free
+onto_free mark h (suc k) n ds free =
+    let d : ℕ = digit_glyph false (n % 10) in
+    let more : IsFree mark (d ∷ ds) = free_cons mark d ds (no_digit mark d h (glyph_range n)) free in
+    at (eqb (n / 10) 0) (d ∷ ds) (digits_onto k 10 false (n / 10) (d ∷ ds)) more (onto_free mark h k (n / 10) (d ∷ ds) more) where
+      at : (v : Bool) (x y : List ℕ) → IsFree mark x → IsFree mark y → IsFree mark (cond v x y)
+      at true x y one two = one
+      at false x y one two = two
+
+-- of any number, however many digits it has
+pub any_decimal_free : (mark n : ℕ) → (mark < 48) ⊎ (57 < mark) → IsFree mark (decimal n)
+unfolding digits
+any_decimal_free mark n h = onto_free mark h 64 n [] refl
 
 apart_digits : (w : ℕ) (ws ds : List ℕ) → (w < 48) ⊎ (57 < w) → 0 < length ds → all_ascii_digits ds ≡ true → strip (w ∷ ws) ds ≡ Err Broken
 apart_digits w ws [] h some k = absurd (omega arith)

@@ -6,7 +6,10 @@ use Rattle.std.specs.Fmt.{decimal}
 use Rattle.std.specs.List.{flat_map, AllByRecursion}
 use Rattle.b1_model.specs.declared.commands.Command.{Command}
 use Rattle.b1_model.specs.declared.commands.Command.TheVariants as cmd
-use Rattle.b1_text_words.specs.Commands.{command_text, flag_of, IsCommand}
+use Rattle.b1_model.specs.declared.naming.Limits.{Limits}
+use Rattle.b1_model.specs.declared.version.Version.{Version}
+use Rattle.b1_model.specs.declared.version.Version.TheVariants.{One, Two}
+use Rattle.b1_text_words.specs.Commands.{command_text, flag_of, limits_text, AreLimits, IsCommand}
 use Rattle.b1_text_words.specs.Numbers.{invalid, slot_text, script_handle_text, script_offset_text, handle_text, offset_text, list_text, hex_digit, hex_pair, hex_text}
 use Rattle.b1_text_words.specs.declared.items.Form.TheVariants.{Report}
 use Rattle.b1_report_lines.proofs.Decimals.{decimal_free}
@@ -52,6 +55,7 @@ pub record WordsAreFree (mark : ℕ) : Type 0 where
   pub disconnect : IsFree mark (codes "disconnect")
   pub query : IsFree mark (codes "query")
   pub reset : IsFree mark (codes "reset ")
+  pub limit : IsFree mark (codes "limit ")
   pub release : IsFree mark (codes "release ")
   pub destroy : IsFree mark (codes "destroy ")
   pub slice : IsFree mark (codes "slice ")
@@ -96,24 +100,31 @@ module _ (mark : ℕ) (words : WordsAreFree mark) where
   flag true = words.flag_on
   flag false = words.flag_off
 
-  three : (a b c : ℕ) → a < 2 ^ 32 → b < 2 ^ 32 → c < 2 ^ 32 → IsFree mark (codes "reset " ++ (decimal a ++ codes " " ++ decimal b ++ codes " " ++ decimal c))
-  three a b c h k l =
-      also (codes "reset ") (decimal a ++ codes " " ++ decimal b ++ codes " " ++ decimal c) words.reset
-      (also (decimal a ++ codes " " ++ decimal b ++ codes " ") (decimal c)
-      (also (decimal a ++ codes " " ++ decimal b) (codes " ")
-      (also (decimal a ++ codes " ") (decimal b) (also (decimal a) (codes " ") (number a (omega (arith, h))) words.space) (number b (omega (arith, k))))
+  three : (word : List ℕ) (limits : Limits) → IsFree mark word → AreLimits limits → IsFree mark (word ++ limits_text limits)
+  three word limits free h =
+      let a : List ℕ = decimal limits.entries in
+      let b : List ℕ = decimal limits.bytes in
+      let c : List ℕ = decimal limits.handles in
+      also word (a ++ codes " " ++ b ++ codes " " ++ c) free
+      (also (a ++ codes " " ++ b ++ codes " ") c
+      (also (a ++ codes " " ++ b) (codes " ")
+      (also (a ++ codes " ") b (also a (codes " ") (number limits.entries (omega (arith, h.entries))) words.space) (number limits.bytes (omega (arith, h.bytes))))
       words.space)
-      (number c (omega (arith, l))))
+      (number limits.handles (omega (arith, h.handles))))
 
-  pub command_free : (c : Command) → IsCommand Report c → IsFree mark (command_text c)
-  command_free cmd.Disconnect h = words.disconnect
-  command_free cmd.Query h = words.query
-  command_free (cmd.Reset limits) h = three limits.entries limits.bytes limits.handles h.entries h.bytes h.handles
-  command_free (cmd.Limit limits) h = absurd h
-  command_free (cmd.Release n) h = also (codes "release ") (handle_text n) words.release (handle n h)
-  command_free (cmd.Destroy numbers) h = also (codes "destroy ") (list_text handle_text numbers) words.destroy (handles numbers h.items)
-  command_free (cmd.SliceRelease n) h = also (codes "slice ") (offset_text n) words.slice (offset n h)
-  command_free (cmd.Send send) h =
+  limit : (version : Version) (limits : Limits) → IsCommand Report version (cmd.Limit limits) → IsFree mark (command_text (cmd.Limit limits))
+  limit One limits h = absurd h
+  limit Two limits h = three (codes "limit ") limits words.limit h
+
+  pub command_free : (version : Version) (c : Command) → IsCommand Report version c → IsFree mark (command_text c)
+  command_free version cmd.Disconnect h = words.disconnect
+  command_free version cmd.Query h = words.query
+  command_free version (cmd.Reset limits) h = three (codes "reset ") limits words.reset h
+  command_free version (cmd.Limit limits) h = limit version limits h
+  command_free version (cmd.Release n) h = also (codes "release ") (handle_text n) words.release (handle n h)
+  command_free version (cmd.Destroy numbers) h = also (codes "destroy ") (list_text handle_text numbers) words.destroy (handles numbers h.items)
+  command_free version (cmd.SliceRelease n) h = also (codes "slice ") (offset_text n) words.slice (offset n h)
+  command_free version (cmd.Send send) h =
       also ((codes "send " ++ flag_of send.go_on) ++ list_text handle_text send.to ++ codes " with " ++ list_text handle_text send.with ++ codes " data ") (hex_text send.payload)
       (also ((codes "send " ++ flag_of send.go_on) ++ list_text handle_text send.to ++ codes " with " ++ list_text handle_text send.with) (codes " data ")
       (also ((codes "send " ++ flag_of send.go_on) ++ list_text handle_text send.to ++ codes " with ") (list_text handle_text send.with)
@@ -122,17 +133,17 @@ module _ (mark : ℕ) (words : WordsAreFree mark) where
       (handles send.with h.with.items))
       words.bytes)
       (hex_free mark words.side words.dash send.payload h.payload.items)
-  command_free cmd.Recv h = words.recv
-  command_free cmd.Await h = words.await
+  command_free version cmd.Recv h = words.recv
+  command_free version cmd.Await h = words.await
 
 words_free_of_line_feed : WordsAreFree 10
-words_free_of_line_feed = record { side = inl (omega arith); dash = refl; comma = refl; point = refl; at = refl; space = refl; invalid = refl; disconnect = refl; query = refl; reset = refl; release = refl; destroy = refl; slice = refl; send = refl; flag_off = refl; flag_on = refl; with = refl; bytes = refl; recv = refl; await = refl }
+words_free_of_line_feed = record { side = inl (omega arith); dash = refl; comma = refl; point = refl; at = refl; space = refl; invalid = refl; disconnect = refl; query = refl; reset = refl; limit = refl; release = refl; destroy = refl; slice = refl; send = refl; flag_off = refl; flag_on = refl; with = refl; bytes = refl; recv = refl; await = refl }
 
 words_free_of_equals : WordsAreFree 61
-words_free_of_equals = record { side = inr (omega arith, omega arith); dash = refl; comma = refl; point = refl; at = refl; space = refl; invalid = refl; disconnect = refl; query = refl; reset = refl; release = refl; destroy = refl; slice = refl; send = refl; flag_off = refl; flag_on = refl; with = refl; bytes = refl; recv = refl; await = refl }
+words_free_of_equals = record { side = inr (omega arith, omega arith); dash = refl; comma = refl; point = refl; at = refl; space = refl; invalid = refl; disconnect = refl; query = refl; reset = refl; limit = refl; release = refl; destroy = refl; slice = refl; send = refl; flag_off = refl; flag_on = refl; with = refl; bytes = refl; recv = refl; await = refl }
 
-pub command_in_line : (c : Command) → IsCommand Report c → IsFree 10 (command_text c)
+pub command_in_line : (version : Version) (c : Command) → IsCommand Report version c → IsFree 10 (command_text c)
 command_in_line = command_free 10 words_free_of_line_feed
 
-pub command_before_equals : (c : Command) → IsCommand Report c → IsFree 61 (command_text c)
+pub command_before_equals : (version : Version) (c : Command) → IsCommand Report version c → IsFree 61 (command_text c)
 command_before_equals = command_free 61 words_free_of_equals

@@ -7,7 +7,9 @@ use Rattle.b1_model.specs.declared.answers.Reason.{Reason}
 use Rattle.b1_model.specs.declared.commands.Command.{Command}
 use Rattle.b1_model.specs.declared.commands.Command.TheVariants as cmd
 use Rattle.b1_model.specs.declared.records.Call.{Call}
-use Rattle.b1_text_words.specs.Commands.{command_text}
+use Rattle.b1_model.specs.declared.version.Version.{Version}
+use Rattle.b1_model.specs.Versions.{version_of, version_number}
+use Rattle.b1_text_words.specs.Commands.{command_text, cookie_text}
 use Rattle.b1_text_words.specs.Numbers.{number_text, list_text, hex_text}
 use Rattle.b1_report_lines.specs.declared.kinds.AnswerKind.{AnswerKind}
 use Rattle.b1_report_lines.specs.declared.kinds.AnswerKind.TheVariants as kinds
@@ -19,9 +21,9 @@ use Rattle.b1_report_lines.specs.declared.reasons.ReasonKind.{ReasonKind}
 use Rattle.b1_report_lines.specs.declared.reasons.ReasonKind.TheVariants as why
 use Rattle.b1_report_lines.specs.Answers.{reason_text, place_text, places_text, answer_text, Is32, Is64, HasReasonFields, HasPlaceFields}
 use Rattle.b1_report_lines.specs.Forms.{reason_word}
-use Rattle.b1_report_lines.specs.Lines.{IsCall, call_line, peer_line, line_text, MayStand}
+use Rattle.b1_report_lines.specs.Lines.{Cookies, IsCall, call_line, call_words, header_line, next_cookie, peer_line, line_text, MayStand}
 use Rattle.b1_report_lines.proofs.Choices.{behind_mark, FitsOption, dash_text}
-use Rattle.b1_report_lines.proofs.Decimals.{decimal_free, known_free}
+use Rattle.b1_report_lines.proofs.Decimals.{decimal_free, any_decimal_free, known_free}
 use Rattle.b1_report_lines.proofs.ExactAnswers.{AnswerValue, doomed_text, IsDoomed, doomed_words, IsNotice, node_words, IsNode, words_of, FitsForm, word_of, IsFit, same, onto}
 use Rattle.b1_report_lines.proofs.ExactPlaces.{reason_free}
 use Rattle.b1_report_lines.proofs.FreeCommands.{list_free, hex_free, command_in_line}
@@ -144,8 +146,18 @@ answer_in_line command answer h =
     subst InLine (same command o.0 o.1 o.2.0.0 o.2.0.1 ∙ ap (answer_text command) o.2.1)
     (also (word_of command o.0) (words_of o.0 o.1) (front_in_line command o.0) (form_in_line o.0 o.1 o.2.0.1))
 
-call_in_line : (c : Call) → IsCall c → InLine (call_line c)
-call_in_line c h = also (command_text c.command ++ codes " = ") (answer_text c.command c.answer) (also (command_text c.command) (codes " = ") (command_in_line c.command h.command) refl) (answer_in_line c.command c.answer (h.can, h.fields))
+words_in_line : (version : Version) (c : Call) → IsCall version c → InLine (call_words c)
+words_in_line version c h = also (command_text c.command ++ codes " = ") (answer_text c.command c.answer) (also (command_text c.command) (codes " = ") (command_in_line version c.command h.command) refl) (answer_in_line c.command c.answer (h.can, h.fields))
+
+cookie_in_line : (cookie : Option ℕ) → InLine (cookie_text cookie)
+cookie_in_line None = refl
+cookie_in_line (Some n) = also (codes "#" ++ decimal n) (codes " ") (also (codes "#") (decimal n) refl (any_decimal_free 10 n (inl (omega arith)))) refl
+
+call_in_line : (version : Version) (cookie : Option ℕ) (c : Call) → IsCall version c → InLine (call_line cookie c)
+call_in_line version cookie c h = also (cookie_text cookie) (call_words c) (cookie_in_line cookie) (words_in_line version c h)
+
+header_in_line : (version : Version) → InLine (header_line version)
+header_in_line version = also (codes "bus1 report ") (decimal (version_number version)) refl (any_decimal_free 10 (version_number version) (inl (omega arith)))
 
 peer_in_line : (p epoch clock : ℕ) → Is64 p → Is64 epoch → Is64 clock → InLine (peer_line p epoch clock)
 peer_in_line p epoch clock h k l =
@@ -155,24 +167,24 @@ peer_in_line p epoch clock h k l =
     (long clock l)
 
 -- a line that may stand there
-pub line_in_line : (peers : ℕ) (spot : Place) (l : Line) → peers < 2 ^ 32 → MayStand peers spot l → IsFree 10 (line_text peers spot l)
-line_in_line peers place.Header line.Header lt h = refl
-line_in_line peers place.Header line.Count lt h = absurd h
-line_in_line peers place.Header (line.Peer epoch clock) lt h = absurd h
-line_in_line peers place.Header (line.Call call) lt h = absurd h
-line_in_line peers place.Header line.End lt h = absurd h
-line_in_line peers place.Count line.Header lt h = absurd h
-line_in_line peers place.Count line.Count lt h = also (codes "peers ") (decimal peers) refl (short peers lt)
-line_in_line peers place.Count (line.Peer epoch clock) lt h = absurd h
-line_in_line peers place.Count (line.Call call) lt h = absurd h
-line_in_line peers place.Count line.End lt h = absurd h
-line_in_line peers (place.Peers begun) line.Header lt h = absurd h
-line_in_line peers (place.Peers begun) line.Count lt h = absurd h
-line_in_line peers (place.Peers begun) (line.Peer epoch clock) lt h = peer_in_line begun epoch clock (omega (arith, h.0, lt)) h.1.0 h.1.1
-line_in_line peers (place.Peers begun) (line.Call call) lt h = call_in_line call h.1
-line_in_line peers (place.Peers begun) line.End lt h = refl
-line_in_line peers place.Done line.Header lt h = absurd h
-line_in_line peers place.Done line.Count lt h = absurd h
-line_in_line peers place.Done (line.Peer epoch clock) lt h = absurd h
-line_in_line peers place.Done (line.Call call) lt h = absurd h
-line_in_line peers place.Done line.End lt h = absurd h
+pub line_in_line : (cookies : Cookies) (peers : ℕ) (spot : Place) (l : Line) → peers < 2 ^ 32 → MayStand cookies peers spot l → IsFree 10 (line_text cookies peers spot l)
+line_in_line cookies peers place.Header line.Header lt h = header_in_line (version_of cookies)
+line_in_line cookies peers place.Header line.Count lt h = absurd h
+line_in_line cookies peers place.Header (line.Peer epoch clock) lt h = absurd h
+line_in_line cookies peers place.Header (line.Call call) lt h = absurd h
+line_in_line cookies peers place.Header line.End lt h = absurd h
+line_in_line cookies peers place.Count line.Header lt h = absurd h
+line_in_line cookies peers place.Count line.Count lt h = also (codes "peers ") (decimal peers) refl (short peers lt)
+line_in_line cookies peers place.Count (line.Peer epoch clock) lt h = absurd h
+line_in_line cookies peers place.Count (line.Call call) lt h = absurd h
+line_in_line cookies peers place.Count line.End lt h = absurd h
+line_in_line cookies peers (place.Peers begun calls) line.Header lt h = absurd h
+line_in_line cookies peers (place.Peers begun calls) line.Count lt h = absurd h
+line_in_line cookies peers (place.Peers begun calls) (line.Peer epoch clock) lt h = peer_in_line begun epoch clock (omega (arith, h.0, lt)) h.1.0 h.1.1
+line_in_line cookies peers (place.Peers begun calls) (line.Call call) lt h = call_in_line (version_of cookies) (next_cookie cookies begun calls) call h.1
+line_in_line cookies peers (place.Peers begun calls) line.End lt h = refl
+line_in_line cookies peers place.Done line.Header lt h = absurd h
+line_in_line cookies peers place.Done line.Count lt h = absurd h
+line_in_line cookies peers place.Done (line.Peer epoch clock) lt h = absurd h
+line_in_line cookies peers place.Done (line.Call call) lt h = absurd h
+line_in_line cookies peers place.Done line.End lt h = absurd h

@@ -7,8 +7,8 @@ ghost use Rattle.std.specs.Prelude.{None};
 use crate::answers::answer;
 use crate::marks::{after, halves};
 use crate::unread::{Stop, Unread};
-use b1_model::{Call, Command};
-use b1_text_words::{Form, begins_command, read_command};
+use b1_model::{Call, Command, Version};
+use b1_text_words::{Form, begins_command, read_command, write_cookie};
 use std::alloc::Global;
 
 /// What stands before a space at the end.
@@ -33,36 +33,53 @@ fn answered(alloc: Global, command: Command, right: &[u8]) -> Result<Call, Unrea
 }
 
 /// Why bytes without an equals sign are no call: they end in a command or behind one, or no command begins with them.
-fn unanswered(alloc: Global, bytes: &[u8]) -> Unread
+fn unanswered(alloc: Global, version: Version, bytes: &[u8]) -> Unread
     requires { split_once 61 bytes.now ≡ None }
-    ensures { TellsCallStop bytes.now result }
+    ensures { TellsCallStop version None bytes.now result }
 {
-    if begins_command(Form::Report, bytes) {
+    if begins_command(Form::Report, version, bytes) {
         return Unread::Stopped(Stop::Cut);
     }
     let Some(word) = spaced(bytes) else {
         return Unread::Stopped(Stop::Broken);
     };
-    match read_command(alloc, Form::Report, word) {
+    match read_command(alloc, Form::Report, version, word) {
         Ok(Some(_)) => Unread::Stopped(Stop::Cut),
         Ok(None) => Unread::Stopped(Stop::Broken),
         Err(_) => Unread::Memory,
     }
 }
 
-/// The call whose line the bytes are.
-pub(crate) fn read_call(alloc: Global, bytes: &[u8]) -> Result<Call, Unread>
-    ensures { TellsCall bytes.now result }
+/// The call whose command and answer the bytes are.
+fn read_call(alloc: Global, version: Version, bytes: &[u8]) -> Result<Call, Unread>
+    ensures { TellsCall version None bytes.now result }
 {
     let Some((left, right)) = halves(bytes, b'=') else {
-        return Err(unanswered(alloc, bytes));
+        return Err(unanswered(alloc, version, bytes));
     };
     let Some(word) = spaced(left) else {
         return Err(Unread::Stopped(Stop::Broken));
     };
-    match read_command(alloc, Form::Report, word) {
+    match read_command(alloc, Form::Report, version, word) {
         Ok(Some(command)) => answered(alloc, command, right),
         Ok(None) => Err(Unread::Stopped(Stop::Broken)),
         Err(_) => Err(Unread::Memory),
+    }
+}
+
+/// The call whose line the bytes are, with this cookie at its front, or with none.
+pub(crate) fn numbered_call(
+    alloc: Global,
+    version: Version,
+    cookie: Option<u64>,
+    bytes: &[u8],
+) -> Result<Call, Unread>
+    ensures { TellsCall version cookie bytes.now result }
+{
+    let mut words = String::new(alloc);
+    write_cookie(&mut words, cookie)?;
+    match after(bytes, words.as_str()) {
+        Ok(rest) => read_call(alloc, version, rest),
+        Err(stop) => Err(Unread::Stopped(stop)),
     }
 }

@@ -12,5 +12,5 @@ mod reasons;
 mod unread;
 
 pub use answers::{answers_have_texts_of_their_own, read_answer};
-pub use lines::{Line, Place, read_line};
+pub use lines::{Line, Place, cookies_of, read_line, version_of};
 pub use unread::{Stop, Unread};

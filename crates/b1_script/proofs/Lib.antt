@@ -1,4 +1,6 @@
 pub mod WiresLoop
+pub mod Entries
+pub mod PeersLoop
 pub mod Scripts
 pub mod Laws
 mod Stops

@@ -4,12 +4,11 @@ use Rattle.std.specs.Prelude.{IfNone}
 use Rattle.std.specs.Int.{w32, from_le_bytes}
 use Rattle.std.proofs.Math.Seq.{take-add}
 use Rattle.std.proofs.lemmas.Bool.{cases_lt}
-use Rattle.std.proofs.lemmas.List.{append_assoc, drop-append-le, length-append, length-drop, length-take, take-append-le, take-append-drop, take_all, take_at, take-take}
+use Rattle.std.proofs.lemmas.List.{append_assoc, drop-append-le, length-append, length-drop, length-take, take-append-le, take_all, take_at}
 use Rattle.std.proofs.lemmas.Nat.{from_le_bytes-to_le_bytes_4}
-use Rattle.b1_model.specs.declared.limits.TheConstants.{MOST_SCRIPT}
 use Rattle.b1_records.specs.Reading.{Fault}
 use Rattle.b1_records.proofs.Formats.{IsBytes}
-use Rattle.b1_script.proofs.Laws.{whole_is, whole_read}
+use Rattle.b1_script.proofs.Laws.{whole_is, whole_read, most_under}
 use Rattle.b1_script.specs.declared.script.Script.{Script}
 use Rattle.b1_script.specs.Pieces.{HasNoneBefore, HasNoShorter, IsWholeScript, told, told_end}
 use Rattle.b1_script.specs.Spelling.{IsScript, IsWhole, header_len, header_spelling, parts, spelling}
@@ -19,7 +18,7 @@ pub tells : (bytes : List ℕ) (s : Script) → IsWhole bytes s → (told_end �
 tells bytes s is =
     let whole : length (spelling s) ≡ header_len + length (parts s) = length-append (header_spelling s) (parts s) in
     let len : length bytes ≡ header_len + length (parts s) = ap (λ (x : List ℕ). length x) is.spelled ∙ whole in
-    let number : told (spelling s) ≡ header_len + length (parts s) = from_le_bytes-to_le_bytes_4 (header_len + length (parts s)) (omega (arith, is.has_spelling.short)) in
+    let number : told (spelling s) ≡ header_len + length (parts s) = from_le_bytes-to_le_bytes_4 (header_len + length (parts s)) (omega (arith, most_under (length s.opening.peers), is.has_spelling.short)) in
     (omega (arith, len), ap (λ (x : List ℕ). told x) is.spelled ∙ number ∙ sym len)
 
 -- what stands behind doesn't change what is told

@@ -1,5 +1,5 @@
 -- Scripts whose bytes come in pieces.
-use Rattle.std.specs.Prelude.{◌≡◌, ◌≢◌, ◌<◌, ◌+◌, ℕ, Bool, List, [], ◌++◌, length, take, drop}
+use Rattle.std.specs.Prelude.{◌≢◌, ◌<◌, ◌+◌, ℕ, Bool, List, [], ◌++◌, length, take, drop}
 use Rattle.std.specs.Int.{w32, from_le_bytes}
 use Rattle.b1_script.specs.declared.script.Script.{Script}
 use Rattle.b1_script.specs.Reading.{len_place}

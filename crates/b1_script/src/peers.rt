@@ -1,9 +1,10 @@
-ghost use Rattle.std.specs.Prelude.{◌≡◌};
+ghost use Rattle.std.specs.Prelude.{◌≡◌, ◌+◌, ◌≤◌, IfOk};
+ghost use Rattle.b1_model.specs.declared.limits.TheConstants as limits;
 ghost use Rattle.b1_records.specs.Reading.{Gives};
 ghost use Rattle.b1_script.specs.Reading.{is_pool, pool_at, peer_at, peers_at};
 
 use b1_errs::{Cause, NotRead};
-use b1_model::{Limits, MOST_POOL, PeerSpec, Peers};
+use b1_model::{Limits, MOST_POOL, MOST_POOLS, PeerSpec, Peers};
 use b1_records::fields::{number, zero};
 use std::alloc::Global;
 
@@ -14,12 +15,15 @@ fn may_be_pool(size: u32) -> bool
     size % 8 == 0 && size >= 8 && size <= MOST_POOL
 }
 
+/// A pool, where those before it have so many bytes together.
 #[tactic(auto, unfolding(crate::specs::Reading::pool_at))]
-fn pool(bytes: &[u8], at: usize, limit: usize) -> Result<(u32, usize), NotRead>
-    ensures { Gives (λ x. x) result (pool_at limit bytes.now at) }
+fn pool(bytes: &[u8], at: usize, before: u64, limit: usize) -> Result<(u32, usize), NotRead>
+    requires { before ≤ limits.MOST_POOLS }
+    ensures gives { Gives (λ x. x) result (pool_at limit bytes.now before at) }
+    ensures together { IfOk result (λ x. before + x.0 ≤ limits.MOST_POOLS) }
 {
     let (size, end) = number(bytes, at, limit)?;
-    if !may_be_pool(size) {
+    if !may_be_pool(size) || before + u64::from(size) > MOST_POOLS {
         return Err(NotRead::Bad {
             at,
             cause: Cause::Range,
@@ -29,11 +33,13 @@ fn pool(bytes: &[u8], at: usize, limit: usize) -> Result<(u32, usize), NotRead>
 }
 
 #[tactic(auto, unfolding(crate::specs::Reading::peer_at))]
-fn peer(bytes: &[u8], at: usize, limit: usize) -> Result<(PeerSpec, usize), NotRead>
-    ensures { Gives (λ x. x) result (peer_at limit bytes.now at) }
+fn peer(bytes: &[u8], at: usize, before: u64, limit: usize) -> Result<(PeerSpec, usize), NotRead>
+    requires { before ≤ limits.MOST_POOLS }
+    ensures gives { Gives (λ x. x) result (peer_at limit bytes.now before at) }
+    ensures together { IfOk result (λ x. before + x.0.pool ≤ limits.MOST_POOLS) }
 {
     let (user, at) = number(bytes, at, limit)?;
-    let (pool, at) = pool(bytes, at, limit)?;
+    let (pool, at) = pool(bytes, at, before, limit)?;
     let (entries, at) = number(bytes, at, limit)?;
     let (size, at) = number(bytes, at, limit)?;
     let (handles, at) = number(bytes, at, limit)?;
@@ -54,12 +60,14 @@ pub fn read_peers(
     count: u32,
     limit: usize,
 ) -> Result<(Peers, usize), NotRead>
-    ensures { Gives (λ x. x) result (peers_at limit bytes.now count at) }
+    ensures { Gives (λ x. x) result (peers_at limit bytes.now 0 count at) }
 {
     let mut items = Vec::new(alloc);
+    let mut before = 0;
     let mut place = at;
     for _ in 0..count {
-        let (item, end) = peer(bytes, place, limit)?;
+        let (item, end) = peer(bytes, place, before, limit)?;
+        before += u64::from(item.pool);
         items.push(item)?;
         place = end;
     }

@@ -30,7 +30,14 @@ fn parts(
 {
     let (peers, at) = read_peers(alloc, bytes, at, header.peers, limit)?;
     let (wires, at) = read_wires(alloc, bytes, at, header.peers, header.wires, limit)?;
-    let (commands, at) = read_lists(alloc, bytes, at, header.peers, limit)?;
+    let (cookies, commands, at) = read_lists(
+        alloc,
+        bytes,
+        at,
+        header.version,
+        header.peers,
+        limit,
+    )?;
     let (turns, at) = read_turns(alloc, bytes, at, header.peers, header.turns, limit)?;
     let at = pad_end(bytes, at, header.turns, limit)?;
     let opening = Opening {
@@ -42,7 +49,7 @@ fn parts(
         opening,
         commands,
         turns,
-        cookies: None,
+        cookies,
     };
     Ok((script, at))
 }

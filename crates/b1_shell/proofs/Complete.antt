@@ -4,7 +4,7 @@ use Rattle.b1_script.specs.declared.script.Script.{Script}
 use Rattle.b1_shell.specs.declared.Said.{Said}
 use Rattle.b1_shell.specs.declared.Said.TheVariants.{Done, Bad, Stalled, Broken}
 use Rattle.b1_shell.specs.declared.forms.Form.{Form}
-use Rattle.b1_shell.specs.declared.forms.Form.TheVariants.{Play, Asm, Dump, Check}
+use Rattle.b1_shell.specs.declared.forms.Form.TheVariants.{Play, Asm, Dump, Check, Migrate}
 use Rattle.b1_shell.specs.Answers.{IsAccepted, IsAnswer, Says, SaysOf, status}
 use Rattle.b1_shell.specs.Ends.{Completes, ReadsToEnd}
 use Rattle.b1_shell.specs.Reads.{IsRead}
@@ -35,18 +35,27 @@ same_form Play Play e = refl
 same_form Play Asm e = absurd (omega (arith, ap first e))
 same_form Play Dump e = absurd (omega (arith, ap first e))
 same_form Play Check e = absurd (omega (arith, ap first e))
+same_form Play Migrate e = absurd (omega (arith, ap first e))
 same_form Asm Play e = absurd (omega (arith, ap first e))
 same_form Asm Asm e = refl
 same_form Asm Dump e = absurd (omega (arith, ap first e))
 same_form Asm Check e = absurd (omega (arith, ap first e))
+same_form Asm Migrate e = absurd (omega (arith, ap first e))
 same_form Dump Play e = absurd (omega (arith, ap first e))
 same_form Dump Asm e = absurd (omega (arith, ap first e))
 same_form Dump Dump e = refl
 same_form Dump Check e = absurd (omega (arith, ap first e))
+same_form Dump Migrate e = absurd (omega (arith, ap first e))
 same_form Check Play e = absurd (omega (arith, ap first e))
 same_form Check Asm e = absurd (omega (arith, ap first e))
 same_form Check Dump e = absurd (omega (arith, ap first e))
 same_form Check Check e = refl
+same_form Check Migrate e = absurd (omega (arith, ap first e))
+same_form Migrate Play e = absurd (omega (arith, ap first e))
+same_form Migrate Asm e = absurd (omega (arith, ap first e))
+same_form Migrate Dump e = absurd (omega (arith, ap first e))
+same_form Migrate Check e = absurd (omega (arith, ap first e))
+same_form Migrate Migrate e = refl
 
 -- what is said of an input that isn't refused has a status of the form
 answers : (form : Form) (input text : List ℕ) (said : Said) → Says form input said text → (said ≡ Bad → ⊥) → IsAnswer form (status said)
@@ -56,12 +65,15 @@ answers Asm input text Done says other = inl refl
 answers Asm input text Stalled says other = absurd says
 answers Dump input text Done says other = inl refl
 answers Dump input text Stalled says other = absurd says
+answers Migrate input text Done says other = inl refl
+answers Migrate input text Stalled says other = absurd says
 answers Check input text Done says other = inl refl
 answers Check input text Stalled says other = absurd says
 answers Check input text Broken says other = inr (inl refl)
 answers Play input text Broken says other = absurd says
 answers Asm input text Broken says other = absurd says
 answers Dump input text Broken says other = absurd says
+answers Migrate input text Broken says other = absurd says
 answers form input text Bad says other = absurd (other refl)
 
 run_answers : (input text : List ℕ) (said : Said) → RunSays input said text → (said ≡ Broken → ⊥) → (said ≡ Bad → ⊥) → IsAnswer Play (status said)
@@ -75,6 +87,7 @@ memory_answers : (form : Form) → IsAnswer form 6
 memory_answers Play = inr (inr refl)
 memory_answers Asm = inr refl
 memory_answers Dump = inr refl
+memory_answers Migrate = inr refl
 memory_answers Check = inr (inr refl)
 
 -- what was written whole of an input that isn't refused

@@ -19,13 +19,13 @@ use Rattle.b1_script.specs.Spelling.{IsScript}
 use Rattle.b1_shell.specs.declared.Said.{Said}
 use Rattle.b1_shell.specs.declared.Said.TheVariants.{Done, Bad, Stalled, Broken}
 use Rattle.b1_shell.specs.declared.forms.Form.{Form}
-use Rattle.b1_shell.specs.declared.forms.Form.TheVariants.{Play, Asm, Dump, Check}
+use Rattle.b1_shell.specs.declared.forms.Form.TheVariants.{Play, Asm, Dump, Check, Migrate}
 use Rattle.b1_shell.specs.Answers.{Says, TookText, TookPart, status}
 use Rattle.b1_shell.specs.Ends.{TellsInput}
 use Rattle.b1_shell.specs.Runs.{RunSays, TellsRun}
 use Rattle.b1_shell.specs.Threads as threads
 use Rattle.b1_shell.specs.declared.threaded.Threaded.TheVariants.{Soak}
-use Rattle.b1_shell.specs.Faults.{IsFault, long, report}
+use Rattle.b1_shell.specs.Faults.{IsFault, long, report, no_script}
 use Rattle.b1_model.specs.declared.limits.TheConstants.{MOST_CHECKED, MOST_SCRIPT}
 use Rattle.b1_shell.specs.Forms.{Asks, most_input}
 use Rattle.b1_shell.specs.Texts.{bad_line}
@@ -50,6 +50,7 @@ pub long_is_fault : (form : Form) (bytes : List ℕ) → most_input form < lengt
 long_is_fault Play bytes h = long_is_bad bytes h
 long_is_fault Asm bytes h = (refl, h)
 long_is_fault Dump bytes h = long_is_bad bytes h
+long_is_fault Migrate bytes h = no_script (long_is_bad bytes h)
 long_is_fault Check bytes h = long h refl refl
 
 -- a part of what is said of the held bytes was taken

@@ -1,6 +1,6 @@
 -- What a call of the program says of its input.
 use Rattle.std.specs.Prelude.{◌≡◌, ◌⊎◌, ℕ, ◌≤◌, ◌<◌, List, Option, drop, length}
-use Rattle.b1_model.specs.declared.limits.TheConstants.{MOST_CHECKED}
+use Rattle.b1_model.specs.declared.limits.TheConstants.{MOST_CHECKED, MOST_SCRIPT}
 use Rattle.b1_errs.specs.declared.Cause.{Cause}
 use Rattle.b1_io.specs.Streams.{Took, TookSuch}
 use Rattle.b1_judge.specs.declared.verdict.Clause.{Clause}
@@ -8,12 +8,13 @@ use Rattle.b1_judge.specs.Judged.{AllHold, IsFirstBreak}
 use Rattle.b1_model.specs.declared.records.Record.{Record}
 use Rattle.b1_report.specs.Parsing as reports
 use Rattle.b1_script.specs.declared.script.Script.{Script}
-use Rattle.b1_script.specs.Spelling.{IsScript, IsWhole}
+use Rattle.b1_script.specs.Spelling.{IsScript, IsWhole, spelling}
+use Rattle.b1_upgrade.specs.Upgraded.{upgraded}
 use Rattle.b1_text.specs.Accepted.{IsText}
 use Rattle.b1_shell.specs.declared.Said.{Said}
 use Rattle.b1_shell.specs.declared.Said.TheVariants.{Done, Bad, Stalled, Broken}
 use Rattle.b1_shell.specs.declared.forms.Form.{Form}
-use Rattle.b1_shell.specs.declared.forms.Form.TheVariants.{Play, Asm, Dump, Check}
+use Rattle.b1_shell.specs.declared.forms.Form.TheVariants.{Play, Asm, Dump, Check, Migrate}
 use Rattle.b1_shell.specs.Plays.{IsReport, IsStallReport}
 use Rattle.b1_shell.specs.Faults.{IsFault}
 use Rattle.b1_shell.specs.Forms.{most_input}
@@ -47,6 +48,20 @@ pub record IsDumped (input text : List ℕ) : Type 0 where
   pub spelled : IsWhole input script
   pub written : IsText text script
 
+-- ---- migrate
+
+-- the input is a script, and the text is the script of version 2 that it becomes
+pub record IsMigrated (input text : List ℕ) : Type 0 where
+  pub script : Script
+  pub spelled : IsWhole input script
+  pub written : IsWhole text (upgraded script)
+
+-- the input is a script that isn't too long with cookies
+pub record CanMigrate (input : List ℕ) : Type 0 where
+  pub script : Script
+  pub spelled : IsWhole input script
+  pub short : length (spelling (upgraded script)) ≤ MOST_SCRIPT
+
 -- ---- check
 
 -- the input isn't too long, and is a script and behind it the report of a record of as many peers, to its end
@@ -54,7 +69,7 @@ pub record HasReport (input : List ℕ) (s : Script) (r : Record) : Type 0 where
   pub end : ℕ
   pub few : length input ≤ MOST_CHECKED
   pub script : IsScript input s end
-  pub report : reports.IsReport (length s.opening.peers) (drop end input) r
+  pub report : reports.IsReport s.cookies (length s.opening.peers) (drop end input) r
 
 -- the report behind the script is legal, and the text says so
 pub record IsLegal (input text : List ℕ) : Type 0 where
@@ -83,6 +98,7 @@ IsDone Play input text = IsPlayed input text
 IsDone Asm input text = IsAssembled input text
 IsDone Dump input text = IsDumped input text
 IsDone Check input text = IsLegal input text
+IsDone Migrate input text = IsMigrated input text
 
 -- the input has a fault, and the text says where the first one is, and its cause
 pub record IsFaulty (form : Form) (input text : List ℕ) : Type 0 where
@@ -140,6 +156,7 @@ abbrev pub IsAsked : Form → List ℕ → Type 0
 IsAsked Play input = (script : Script) × IsWhole input script
 IsAsked Asm input = (script : Script) × IsText input script
 IsAsked Dump input = (script : Script) × IsWhole input script
+IsAsked Migrate input = CanMigrate input
 IsAsked Check input = (script : Script) × (outcome : Record) × HasReport input script outcome
 
 -- the input is what the form asks for, and no longer than it may be
@@ -153,4 +170,5 @@ abbrev pub IsAnswer : Form → ℕ → Type 0
 IsAnswer Play status = (status ≡ 0) ⊎ ((status ≡ 3) ⊎ (status ≡ 6))
 IsAnswer Asm status = (status ≡ 0) ⊎ (status ≡ 6)
 IsAnswer Dump status = (status ≡ 0) ⊎ (status ≡ 6)
+IsAnswer Migrate status = (status ≡ 0) ⊎ (status ≡ 6)
 IsAnswer Check status = (status ≡ 0) ⊎ ((status ≡ 7) ⊎ (status ≡ 6))

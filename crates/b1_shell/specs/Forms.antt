@@ -2,7 +2,7 @@
 use Rattle.std.specs.Prelude.{◌≡◌, ℕ, List, [], ◌∷◌, codes}
 use Rattle.b1_model.specs.declared.limits.TheConstants.{MOST_CHECKED, MOST_SCRIPT, MOST_TEXT}
 use Rattle.b1_shell.specs.declared.forms.Form.{Form}
-use Rattle.b1_shell.specs.declared.forms.Form.TheVariants.{Play, Asm, Dump, Check}
+use Rattle.b1_shell.specs.declared.forms.Form.TheVariants.{Play, Asm, Dump, Check, Migrate}
 
 -- the word for each
 abbrev pub word_of : Form → List ℕ
@@ -10,6 +10,7 @@ word_of Play = codes "play"
 word_of Asm = codes "asm"
 word_of Dump = codes "dump"
 word_of Check = codes "check"
+word_of Migrate = codes "migrate"
 
 -- the words are that one word
 abbrev pub Asks : List (List ℕ) → Form → Type 0
@@ -31,3 +32,4 @@ most_input Play = MOST_SCRIPT
 most_input Asm = MOST_TEXT
 most_input Dump = MOST_SCRIPT
 most_input Check = MOST_CHECKED
+most_input Migrate = MOST_SCRIPT

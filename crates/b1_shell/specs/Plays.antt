@@ -28,11 +28,11 @@ pub record IsReport (s : Script) (text : List ℕ) : Type 0 where
   pub serial : s.turns ≡ [] → IsSerial s.opening s.commands (shortage_of outcome) outcome
   -- and where it shows none, the text is a function of the script alone
   pub alone : s.turns ≡ [] → IsAmple outcome
-      → text ≡ report_text (ample_record s.opening s.commands)
+      → text ≡ report_text s.cookies (ample_record s.opening s.commands)
   -- a script that stalls on the serial bus with ample memory ends only by want of memory
   pub unstalled : s.turns ≡ [] → StallsAmple s.opening s.commands → IsAmple outcome → ⊥
-  pub text_is : text ≡ report_text outcome
-  pub again : reports.IsReport (length outcome.peers) text outcome
+  pub text_is : text ≡ report_text s.cookies outcome
+  pub again : reports.IsReport s.cookies (length outcome.peers) text outcome
 
 -- the text tells that the script's schedule stalls where memory is wanting nowhere: which peers wait in the stuck state,
 -- and the report of its legal record, in which each peer's calls are the first of its commands; without turns the serial bus
@@ -45,4 +45,4 @@ pub record IsStallReport (s : Script) (text : List ℕ) : Type 0 where
   pub legal : Legal s.opening outcome
   pub script : (p : ℕ) → AllInPlace (follows.commands_of s.commands p) (calls_of outcome p)
   pub serial : s.turns ≡ [] → IsSerialStall s.opening s.commands waiting outcome
-  pub text_is : text ≡ stalled_line waiting ++ report_text outcome
+  pub text_is : text ≡ stalled_line waiting ++ report_text s.cookies outcome

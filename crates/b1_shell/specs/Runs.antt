@@ -20,15 +20,15 @@ use Rattle.b1_shell.specs.Texts.{stalled_line}
 pub record IsRunReport (s : Script) (text : List ℕ) : Type 0 where
   pub outcome : Record
   pub run : runs.IsDone s outcome
-  pub text_is : text ≡ report_text outcome
-  pub again : reports.IsReport (length outcome.peers) text outcome
+  pub text_is : text ≡ report_text s.cookies outcome
+  pub again : reports.IsReport s.cookies (length outcome.peers) text outcome
 
 -- the text tells a stuck state that some list of steps reaches from the script's opening: which peers wait there, and the report of its legal record, which shows no want of memory, and in which each peer's calls are the first of its commands
 pub record IsRunStall (s : Script) (text : List ℕ) : Type 0 where
   pub waiting : List ℕ
   pub outcome : Record
   pub stalls : runs.IsStalled s waiting outcome
-  pub text_is : text ≡ stalled_line waiting ++ report_text outcome
+  pub text_is : text ≡ stalled_line waiting ++ report_text s.cookies outcome
 
 -- ---- what is said
 

@@ -9,7 +9,7 @@ use Rattle.b1_text_words.specs.Numbers.{list_text}
 
 -- the line for words that aren't known
 abbrev pub usage_line : List ℕ
-usage_line = codes "usage: bus1sh play|run|asm|dump|check|soak N\n"
+usage_line = codes "usage: bus1sh play|run|asm|dump|check|migrate|soak N\n"
 
 -- the line for a fault of the input: where it is, in bytes from the start, and its cause
 abbrev pub bad_line : ℕ → Cause → List ℕ

@@ -32,10 +32,14 @@ fn answer_script(alloc: Global, script: &Script) -> Result<(Said, Vec<u8>), Allo
     a_finished_play_is_drained();
     a_stalled_play_is_stuck();
     what_is_played_is_spelled();
+    let cookies = script.cookies.as_ref();
     match play(alloc, script)? {
-        Played::Done(outcome) => Ok((Said::Done, print(alloc, &outcome)?)),
+        Played::Done(outcome) => Ok((Said::Done, print(alloc, &outcome, cookies)?)),
         Played::Stalled { waiting, reached } => {
-            Ok((Said::Stalled, stall_report(alloc, &waiting, &reached)?))
+            Ok((
+                Said::Stalled,
+                stall_report(alloc, &waiting, &reached, cookies)?,
+            ))
         }
     }
 }

@@ -38,11 +38,12 @@ fn answer_report(alloc: Global, front: &Front) -> Result<(Said, Vec<u8>), AllocE
         → IsFront input front.now.script front.now.end front.now.behind.items
         → Says Check input r.0 r.1.items) }
     ensures accepted { IfOk result (λ r. (outcome : Records)
-        → report.IsReport (length front.now.script.opening.peers) front.now.behind.items outcome
+        → report.IsReport front.now.script.cookies (length front.now.script.opening.peers)
+        front.now.behind.items outcome
         → r.0 ≢ Bad) }
 {
     let peers = front.script.opening.peers.len() as u32;
-    match parse(alloc, &front.behind, peers) {
+    match parse(alloc, &front.behind, peers, front.script.cookies.as_ref()) {
         Ok(outcome) => answer_record(alloc, front, &outcome),
         Err(NotRead::Bad { at, cause }) => Ok((Said::Bad, bad_line(alloc, front.end + at, cause)?)),
         Err(NotRead::Memory) => Err(AllocError),
@@ -56,8 +57,8 @@ fn answer_record(
     outcome: &Record,
 ) -> Result<(Said, Vec<u8>), AllocError>
     requires front { IsChecked front.now }
-    requires report { report.IsReport (length front.now.script.opening.peers)
-        front.now.behind.items outcome.now }
+    requires report { report.IsReport front.now.script.cookies
+        (length front.now.script.opening.peers) front.now.behind.items outcome.now }
     ensures says { IfOk result (λ r. (input : List ℕ) → length input ≤ most
         → IsFront input front.now.script front.now.end front.now.behind.items
         → Says Check input r.0 r.1.items) }

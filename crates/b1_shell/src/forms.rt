@@ -13,6 +13,8 @@ pub enum Form {
     Dump,
     /// The report behind a script is judged.
     Check,
+    /// The script of version 2 that a script becomes is written.
+    Migrate,
 }
 
 /// The form that the words ask for; `None` where they ask for none.
@@ -37,6 +39,7 @@ fn form_of_word(word: &String) -> Option<Form>
         "asm" => Some(Form::Asm),
         "dump" => Some(Form::Dump),
         "check" => Some(Form::Check),
+        "migrate" => Some(Form::Migrate),
         _ => None,
     }
 }

@@ -15,7 +15,7 @@ ghost use Rattle.std.specs.Prelude.{◌≡◌, ◌≢◌, ◌<◌, ◌≤◌, �
 ghost use Rattle.b1_io.specs.Streams.{Rose, Took, TookSuch};
 ghost use Rattle.b1_shell.specs.Answers.{Says, status};
 ghost use Rattle.b1_shell.specs.Reads.{IsRead};
-ghost use Rattle.b1_shell.specs.declared.forms.Form.TheVariants.{Asm, Check, Dump, Play};
+ghost use Rattle.b1_shell.specs.declared.forms.Form.TheVariants.{Asm, Check, Dump, Migrate, Play};
 ghost use Rattle.b1_shell.specs.Forms.{AsksNothing};
 ghost use Rattle.b1_shell.specs.Ends.{spelled, Completes, TellsUsage, TellsInput, ReadsToEnd};
 ghost use Rattle.b1_shell.specs.Runs.{RunCompletes, TellsRun, TellsSoak};
@@ -39,7 +39,7 @@ use running::read_and_run;
 use std::alloc::{AllocError, Global};
 use std::sync::Wait;
 use std::thread::Threads;
-use texts::{answer_asm, answer_dump};
+use texts::{answer_asm, answer_dump, answer_migrate};
 pub use threaded::Threaded;
 use threaded::threaded_of;
 
@@ -89,6 +89,7 @@ fn read_and_answer<S: Source>(
         Form::Play => read_and_play(alloc, source),
         Form::Dump => read_and_dump(alloc, source),
         Form::Check => read_and_check(alloc, source),
+        Form::Migrate => read_and_migrate(alloc, source),
     }
 }
 
@@ -127,6 +128,19 @@ fn read_and_dump<S: Source>(alloc: Global, source: &mut S) -> Result<(Said, Vec<
 {
     match read_to_end(source, Input::make(alloc), MOST_SCRIPT)? {
         Some(input) => Ok(answer_dump(alloc, input)?),
+        None => Ok((Said::Bad, bad_line(alloc, MOST_SCRIPT, Cause::Long)?)),
+    }
+}
+
+// Reads the source for the word `migrate`, and makes the whole text.
+fn read_and_migrate<S: Source>(alloc: Global, source: &mut S) -> Result<(Said, Vec<u8>), Unsaid>
+    ensures read { IfOk result (λ r.
+        IsRead (Says Migrate) Migrate (S.left source.old) (S.left source.new) r.0 r.1.items) }
+    ensures fault { IfErr result (λ e. e ≡ Fault
+        → Rose (S.faults source.old) (S.faults source.new)) }
+{
+    match read_to_end(source, Input::make(alloc), MOST_SCRIPT)? {
+        Some(input) => Ok(answer_migrate(alloc, input)?),
         None => Ok((Said::Bad, bad_line(alloc, MOST_SCRIPT, Cause::Long)?)),
     }
 }
@@ -189,7 +203,7 @@ fn run<S: Source, K: Sink>(alloc: Global, words: &[String], source: &mut S, sink
     let Some(form) = form_of(words) else {
         return match write_all(
             sink,
-            "usage: bus1sh play|run|asm|dump|check|soak N\n".as_bytes(),
+            "usage: bus1sh play|run|asm|dump|check|migrate|soak N\n".as_bytes(),
         ) {
             Ok(()) => 1,
             Err(_) => 5,
@@ -206,9 +220,11 @@ fn run<S: Source, K: Sink>(alloc: Global, words: &[String], source: &mut S, sink
 ///
 /// - 0: what was asked for was done, and written: with `play` the source held a script, which was played, and its
 ///   report was written; with `asm` it held the text of a script, which was written; with `dump` a script, whose text
-///   was written; with `check` a script and its report, which is legal, and `legal` was written;
+///   was written; with `migrate` a script, and the script of version 2 that it becomes was written; with `check` a script
+///   and its report, which is legal, and `legal` was written;
 /// - 1: the words are none of these; the usage line was written;
-/// - 2: the source held nothing of the form; a line with the place and the cause of the first fault was written;
+/// - 2: the source held nothing of the form, or with `migrate` a script that is too long with cookies; a line with the
+///   place and the cause of the first fault was written;
 /// - 3: with `play`, the script stalls: all peers whose commands aren't at their end wait for messages that nobody sends;
 ///   a line that tells them was written, and behind it the report of what was reached;
 /// - 4: a read failed; nothing was written;
@@ -216,8 +232,9 @@ fn run<S: Source, K: Sink>(alloc: Global, words: &[String], source: &mut S, sink
 /// - 6: memory ran out; nothing was written;
 /// - 7: with `check`, the report is not legal; a line that says where was written.
 ///
-/// The source is read to its end, or one byte past the most that the input may have (`play` and `dump` 16,777,216
-/// bytes, `asm` 67,108,864, `check` 268,435,456), before anything is answered; a script is taken in pieces, and read once.
+/// The source is read to its end, or one byte past the most that the input may have (`play`, `dump` and `migrate`
+/// 16,777,216 bytes, `asm` 67,108,864, `check` 268,435,456), before anything is answered; a script is taken in pieces, and
+/// read once.
 /// Each text is made whole before it is written. `docs/FORMATS.md` tells the forms.
 pub fn quiet<S: Source, K: Sink>(
     alloc: Global,

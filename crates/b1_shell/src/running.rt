@@ -79,10 +79,14 @@ fn run_script<R: Threads + Wait + Sync, G: Gate + Sync>(
     ensures unbroken { IfOk result (λ r. r.0 ≢ Broken) }
 {
     what_is_played_is_spelled();
+    let cookies = script.cookies.as_ref();
     match run(rt, alloc, gate, script)? {
-        Ran::Done(outcome) => Ok((Said::Done, print(alloc, &outcome)?)),
+        Ran::Done(outcome) => Ok((Said::Done, print(alloc, &outcome, cookies)?)),
         Ran::Stalled { waiting, reached } => {
-            Ok((Said::Stalled, stall_report(alloc, &waiting, &reached)?))
+            Ok((
+                Said::Stalled,
+                stall_report(alloc, &waiting, &reached, cookies)?,
+            ))
         }
     }
 }

@@ -1,11 +1,13 @@
 // What is written of a script that stalls.
 ghost use Rattle.std.specs.Prelude.{◌≡◌, ◌++◌, IfOk, OnOk, string_bytes};
 ghost use Rattle.std.specs.Fmt.{decimal};
+ghost use Rattle.std.specs.Option.{option_copied};
+ghost use Rattle.b1_model.specs.Versions.{version_of};
 ghost use Rattle.b1_report.specs.Report.{report_text, EachSpelled};
 ghost use Rattle.b1_text_words.specs.Numbers.{list_text};
 ghost use Rattle.b1_shell.specs.Texts as texts;
 
-use b1_model::{Nums32, Record};
+use b1_model::{CookieLists, Nums32, Record};
 use b1_report::print;
 use std::alloc::{AllocError, Global};
 use std::fmt::Write;
@@ -15,13 +17,14 @@ pub fn stall_report(
     alloc: Global,
     waiting: &Nums32,
     reached: &Record,
+    cookies: Option<&CookieLists>,
 ) -> Result<Vec<u8>, AllocError>
-    requires { EachSpelled reached.now.peers }
+    requires { EachSpelled (version_of (option_copied cookies)) reached.now.peers }
     ensures { IfOk result (λ text. text.items ≡ texts.stalled_line waiting.now
-        ++ report_text reached.now) }
+        ++ report_text (option_copied cookies.entry) reached.now) }
 {
     let mut text = stalled_line(alloc, waiting.as_slice())?;
-    let report = print(alloc, reached)?;
+    let report = print(alloc, reached, cookies)?;
     text.extend_from_slice(&report)?;
     Ok(text)
 }

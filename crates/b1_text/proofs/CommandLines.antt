@@ -1,20 +1,32 @@
 -- The bytes that begin the line of a command for whose record there is room.
-use Rattle.std.proofs.Common.{◌≡◌, ◌↔◌, ℕ, ◌-◌, ◌<◌, ◌≤◌, Bool, true, false, List, ◌++◌, length, codes, IsTrue, refl, sym, ap, subst, ◌∙◌, arith}
+use Rattle.std.proofs.Common.{◌≡◌, ◌↔◌, ℕ, ◌+◌, ◌-◌, ◌<◌, ◌≤◌, Bool, true, false, ◌&&◌, List, ◌∷◌, ◌++◌, length, Option, Some, None, codes, IsTrue, refl, sym, ap, subst, ◌∙◌, arith}
+use Rattle.std.specs.Prelude.{IfSome}
+use Rattle.std.specs.Fmt.{decimal}
 use Rattle.b1_model.specs.declared.commands.Command.{Command}
 use Rattle.b1_model.specs.declared.commands.Command.TheVariants.{Disconnect, Query, Reset, Limit, Release, Destroy, SliceRelease, Send, Recv, Await}
 use Rattle.b1_model.specs.declared.commands.SendCmd.{SendCmd}
 use Rattle.b1_model.specs.declared.naming.Limits.{Limits}
-use Rattle.b1_records.specs.Spelling.{Is64, AreLimits, IsWithin}
+use Rattle.b1_model.specs.declared.version.Version.{Version}
+use Rattle.b1_model.specs.declared.version.Version.TheVariants.{One, Two}
+use Rattle.b1_model.specs.Versions.{version_of}
+use Rattle.b1_records.specs.Spelling.{Is64, AreLimits, HasNumbers}
+use Rattle.b1_script.specs.Spelling.{IsWithinOf, most_len}
 use Rattle.b1_text_words.specs.declared.items.Form.TheVariants.{Script as in_script}
 use Rattle.b1_text_words.specs.declared.items.Item.TheVariants.{Handle}
-use Rattle.b1_text_words.specs.Commands.{command_text_in, limits_text}
+use Rattle.b1_text_words.specs.Commands.{command_text_in, cookie_text, limits_text}
 use Rattle.b1_text_words.specs.Items.{AreItems}
 use Rattle.b1_text_words.specs.Numbers.{script_handle_text, script_offset_text, list_text}
-use Rattle.b1_text_words.specs.Words.{Spells, Begins}
-use Rattle.b1_text.specs.Drafts.{IsCarried, record_len}
-use Rattle.b1_text.specs.Nexts.{HasRoom, HasRoomAs, is_plain, is_reference, is_reset, is_send, IsLoad, load_text}
-use Rattle.b1_text.proofs.Lengths.{destroy_len, send_len}
-use Rattle.b1_text.proofs.Begins.{begins_map, begins_same, never}
+use Rattle.b1_text_words.specs.Words.{Spells, Reads, Begins, IsFree}
+use Rattle.b1_text.specs.declared.statement.Entry.{Entry}
+use Rattle.b1_text.specs.Texts.{plain, marked, entry_text}
+use Rattle.b1_text.specs.Bodies.{cookie_word, marked_body}
+use Rattle.b1_text.specs.Drafts.{IsCarried, record_spelling, record_len, is_of, has_room}
+use Rattle.b1_text.specs.Nexts.{Passes, plain_len, IsRecorded, HasRoom, HasRoomBeside, HasMarkedRoom, HasRoomAs, is_plain, is_reference, is_reset, is_send, IsLoad, load_text}
+use Rattle.b1_text.proofs.Records.{least_plain, within_two, plain_record, marked_record, destroy_len, send_len}
+use Rattle.b1_text.proofs.Judging.{both_of, room_test, room_is}
+use Rattle.b1_text.proofs.Cuts.{cookie_free}
+use Rattle.b1_text.proofs.Firsts.{marked_text}
+use Rattle.b1_text.proofs.Begins.{Halves, begins_map, begins_same, halves_none, halves_some, no_halves, never, same_test}
 use Rattle.b1_text.proofs.Loads.{HandlesFit}
 use Rattle.b1_text.proofs.Sends.{flag_words, load_of, send_split}
 
@@ -39,25 +51,12 @@ not_so r is h p = let t = subst (λ (b : Bool). IsTrue b) is (h.1 p) in cc
 pub not_true : {P : Type 0} → IsTrue false ↔ P → P → ⊥
 not_true h p = let t = h.1 p in cc
 
--- a record has 8 bytes at least
-least_record : (c : Command) → IsWithin c → 8 ≤ record_len c
-least_record Disconnect within = omega arith
-least_record Query within = omega arith
-least_record (Reset limits) within = omega arith
-least_record (Limit limits) within = absurd within
-least_record (Release n) within = omega arith
-least_record (Destroy ns) within = omega (arith, destroy_len ns)
-least_record (SliceRelease n) within = omega arith
-least_record (Send s) within = omega (arith, send_len s)
-least_record Recv within = omega arith
-least_record Await within = omega arith
-
 pub too_small : (kind : Command → Bool) (room : ℕ) (line : List ℕ) → ((c : Command) → HasRoomAs kind room c → ⊥) → IsTrue false ↔ CommandBegins kind room line
 too_small kind room line f = never (command_text_in in_script) (HasRoomAs kind room) line (λ b. f b.whole.value b.whole.is_of)
 
 -- ---- commands of one word
 
-word_command : (room : ℕ) (line : List ℕ) (c : Command) → is_plain c ≡ true → IsCarried c → record_len c ≤ room → WordBegins (command_text_in in_script c) line → CommandBegins is_plain room line
+word_command : (room : ℕ) (line : List ℕ) (c : Command) → is_plain c ≡ true → IsRecorded c → plain_len c ≤ room → WordBegins (command_text_in in_script c) line → CommandBegins is_plain room line
 word_command room line c is carried fits b = record { rest = b.rest; whole = record { value = c; is_of = record { is = is; has_room = record { carried = carried; fits = fits } }; same = b.whole } }
 
 pub disconnect_begins : (room : ℕ) (line : List ℕ) → 8 ≤ room → WordBegins (codes "disconnect") line → CommandBegins is_plain room line
@@ -93,7 +92,7 @@ pub plain_last : (room : ℕ) (line : List ℕ) → (WordBegins (codes "disconne
 plain_last room line d q r b = plain_word room line b.rest b.whole.value (record { disconnect = d; query = q; recv = r }) b.whole.is_of b.whole.same
 
 pub no_plain : (room : ℕ) (c : Command) → room < 8 → HasRoomAs is_plain room c → ⊥
-no_plain room c small h = omega (arith, least_record c h.has_room.carried.within, h.has_room.fits, small)
+no_plain room c small h = omega (arith, least_plain c, h.has_room.fits, small)
 
 -- ---- commands of handles or a slice alone
 
@@ -286,3 +285,133 @@ any_of room line rest (Reset limits) p r t h same = absurd (t (record { rest = r
 
 pub any_last : (room : ℕ) (line : List ℕ) → (CommandBegins is_plain room line → ⊥) → (CommandBegins is_reference room line → ⊥) → (CommandBegins is_reset room line → ⊥) → AnyBegins room line → CommandBegins is_send room line
 any_last room line p r t b = any_of room line b.rest b.whole.value p r t b.whole.is_of b.whole.same
+
+-- ---- commands beside a cookie
+
+-- a command that a record with a cookie can carry
+abbrev pub BesideBegins : ℕ → List ℕ → Type 0
+BesideBegins room line = Begins (Spells (command_text_in in_script) (HasRoomBeside room)) line
+
+abbrev pub LimitBegins : List ℕ → Type 0
+LimitBegins line = Begins (Spells (λ l. codes "limit " ++ limits_text l) AreLimits) line
+
+pub beside_limit : (room : ℕ) (line : List ℕ) → 24 ≤ room → LimitBegins line → BesideBegins room line
+beside_limit room line fits b =
+    begins_map (λ l. codes "limit " ++ limits_text l) AreLimits (command_text_in in_script) (HasRoomBeside room) line
+    (λ l is. (Limit l, record { within = tt; numbers = is; fits = omega arith }, refl)) b
+
+pub beside_any : (room : ℕ) (line : List ℕ) → AnyBegins room line → BesideBegins room line
+beside_any room line b =
+    begins_same (command_text_in in_script) (HasRoom room) (HasRoomBeside room) line
+    (λ c is. record { within = within_two c is.carried.within; numbers = is.carried.numbers; fits = is.fits }) b
+
+beside_of : (room : ℕ) (line rest : List ℕ) (c : Command) → ((24 ≤ room) → LimitBegins line → ⊥) → HasRoomBeside room c → line ++ rest ≡ command_text_in in_script c → AnyBegins room line
+beside_of room line rest (Limit l) none h same = let fits : 24 ≤ room = h.fits in absurd (none fits (record { rest = rest; whole = record { value = l; is_of = h.numbers; same = same } }))
+beside_of room line rest Disconnect none h same = record { rest = rest; whole = record { value = Disconnect; is_of = record { carried = record { within = tt; numbers = h.numbers }; fits = h.fits }; same = same } }
+beside_of room line rest Query none h same = record { rest = rest; whole = record { value = Query; is_of = record { carried = record { within = tt; numbers = h.numbers }; fits = h.fits }; same = same } }
+beside_of room line rest (Reset l) none h same = record { rest = rest; whole = record { value = Reset l; is_of = record { carried = record { within = tt; numbers = h.numbers }; fits = h.fits }; same = same } }
+beside_of room line rest (Release n) none h same = record { rest = rest; whole = record { value = Release n; is_of = record { carried = record { within = tt; numbers = h.numbers }; fits = h.fits }; same = same } }
+beside_of room line rest (Destroy ns) none h same = record { rest = rest; whole = record { value = Destroy ns; is_of = record { carried = record { within = h.within; numbers = h.numbers }; fits = h.fits }; same = same } }
+beside_of room line rest (SliceRelease n) none h same = record { rest = rest; whole = record { value = SliceRelease n; is_of = record { carried = record { within = tt; numbers = h.numbers }; fits = h.fits }; same = same } }
+beside_of room line rest (Send s) none h same = record { rest = rest; whole = record { value = Send s; is_of = record { carried = record { within = h.within; numbers = h.numbers }; fits = h.fits }; same = same } }
+beside_of room line rest Recv none h same = record { rest = rest; whole = record { value = Recv; is_of = record { carried = record { within = tt; numbers = h.numbers }; fits = h.fits }; same = same } }
+beside_of room line rest Await none h same = record { rest = rest; whole = record { value = Await; is_of = record { carried = record { within = tt; numbers = h.numbers }; fits = h.fits }; same = same } }
+
+pub beside_last : (room : ℕ) (line : List ℕ) → ((24 ≤ room) → LimitBegins line → ⊥) → BesideBegins room line → AnyBegins room line
+beside_last room line none b = beside_of room line b.rest b.whole.value none b.whole.is_of b.whole.same
+
+-- ---- a cookie, and a command beside it
+
+abbrev pub MarkedBegins : ℕ → List ℕ → Type 0
+MarkedBegins room line = Begins (Spells marked_body (HasMarkedRoom room)) line
+
+abbrev marked_halves : (room : ℕ) → Halves cookie_word (command_text_in in_script) marked_body (HasMarkedRoom room)
+marked_halves room = record { first = λ x. x.0; rest = λ x. x.1; text = λ x. refl; free = λ x is. cookie_free x.0 is.cookie }
+
+beside_room : (room : ℕ) (x : ℕ × Command) → HasMarkedRoom room x → HasRoomBeside (room - 8) x.1
+beside_room room x h = record { within = h.within; numbers = h.numbers; fits = omega (arith, h.fits) }
+
+-- the bytes of a cookie's word
+pub cookie_begins : (line : List ℕ) (r : Bool) → IsTrue r ↔ Begins (Spells (λ n. codes "#" ++ decimal n) (λ n. n ≤ 18446744073709551615)) line → IsTrue r ↔ Begins (Spells cookie_word Is64) line
+cookie_begins line r h = same_test cookie_word (λ n. n ≤ 18446744073709551615) Is64 line r (λ n is. omega (arith, is)) (λ n is. omega (arith, is)) h
+
+pub no_marked : (room : ℕ) (line : List ℕ) → room < 16 → IsTrue false ↔ MarkedBegins room line
+no_marked room line small =
+    never marked_body (HasMarkedRoom room) line (λ b. omega (arith, b.whole.is_of.fits, least_plain b.whole.value.1, small))
+
+pub marked_alone : (room : ℕ) (line : List ℕ) (r : Bool) → 16 ≤ room → IsFree 32 line → IsTrue r ↔ Begins (Spells cookie_word Is64) line → IsTrue r ↔ MarkedBegins room line
+marked_alone room line r fits plain h =
+    halves_none (marked_halves room) Is64 line r (λ x is. is.cookie)
+    (λ n is. ((n, Recv), record { cookie = is; within = tt; numbers = tt; fits = omega (arith, fits) }, refl)) plain h
+
+pub marked_known : (room : ℕ) (line w rest : List ℕ) (m : Option ℕ) (cookie : ℕ) (r : Bool) → 16 ≤ room → line ≡ w ++ 32 ∷ rest → IsFree 32 w → Reads cookie_word Is64 w m → m ≡ Some cookie
+    → IsTrue r ↔ BesideBegins (room - 8) rest → IsTrue r ↔ MarkedBegins room line
+marked_known room line w rest m cookie r room_is split plain reads is h =
+    let found = subst (λ o. Reads cookie_word Is64 w o) is reads in
+    halves_some (marked_halves room) (HasRoomBeside (room - 8)) line w rest r split plain
+    (λ x of same. beside_room room x of)
+    (λ c of. ((cookie, c), record { cookie = found.found.0; within = of.within; numbers = of.numbers; fits = omega (arith, of.fits, room_is) }, found.found.1, refl)) h
+
+pub marked_none : (room : ℕ) (line w rest : List ℕ) (m : Option ℕ) → line ≡ w ++ 32 ∷ rest → IsFree 32 w → Reads cookie_word Is64 w m → m ≡ None → IsTrue false ↔ MarkedBegins room line
+marked_none room line w rest m split plain reads is =
+    never marked_body (HasMarkedRoom room) line (no_halves (marked_halves room) line w rest split plain
+    (λ x of same. let both : None ≡ Some x.0 = sym is ∙ reads.whole x.0 of.cookie same in cc))
+
+-- ---- the lines of a text
+
+abbrev pub EntryBegins : Version → ℕ → ℕ → List ℕ → Type 0
+EntryBegins version peers len line = Begins (Spells entry_text (Passes IsCarried (λ e. is_of version e.cookie && has_room peers len (record_len e)))) line
+
+-- too many bytes were read for one more record
+pub no_entry : (version : Version) (peers len : ℕ) (line : List ℕ) → most_len peers < len → IsTrue false ↔ EntryBegins version peers len line
+no_entry version peers len line more =
+    never entry_text (Passes IsCarried (λ e. is_of version e.cookie && has_room peers len (record_len e))) line
+    (λ b. let tests = both_of (is_of version b.whole.value.cookie) (has_room peers len (record_len b.whole.value)) b.whole.is_of.goes_on in omega (arith, more, room_is peers len (record_len b.whole.value) tests.1))
+
+-- what the line of a text of version 1 says
+plain_of : (peers len : ℕ) (k : Option ℕ) (c : Command) → is_of One k ≡ true → IsWithinOf (version_of k) c → HasNumbers c → len + length (record_spelling k c) ≤ most_len peers
+    → (d : Command) × HasRoom (most_len peers - len) d × (cookie_text k ++ command_text_in in_script c ≡ command_text_in in_script d)
+plain_of peers len None c is within numbers fits = (c, record { carried = record { within = within; numbers = numbers }; fits = omega (arith, plain_record c within, fits) }, refl)
+plain_of peers len (Some k) c is within numbers fits = absurd cc
+
+entry_plain : (peers len : ℕ) (e : Entry) → Passes IsCarried (λ e. is_of One e.cookie && has_room peers len (record_len e)) e → (d : Command) × HasRoom (most_len peers - len) d × (entry_text e ≡ command_text_in in_script d)
+entry_plain peers len e p =
+    let tests = both_of (is_of One e.cookie) (has_room peers len (record_len e)) p.goes_on in
+    plain_of peers len e.cookie e.command tests.0 p.fits.within p.fits.numbers (room_is peers len (record_len e) tests.1)
+
+plain_entry : (peers len : ℕ) (d : Command) → len ≤ most_len peers → HasRoom (most_len peers - len) d → Passes IsCarried (λ e. is_of One e.cookie && has_room peers len (record_len e)) (plain d)
+plain_entry peers len d few h =
+    record {
+      fits = record { within = h.carried.within; numbers = h.carried.numbers; cookie = tt };
+      goes_on = room_test peers len (record_len (plain d)) (omega (arith, plain_record d h.carried.within, h.fits, few));
+    }
+
+pub plain_lines : (peers len : ℕ) (line : List ℕ) (r : Bool) → len ≤ most_len peers → IsTrue r ↔ AnyBegins (most_len peers - len) line → IsTrue r ↔ EntryBegins One peers len line
+plain_lines peers len line r few h = (
+  λ t. begins_map (command_text_in in_script) (HasRoom (most_len peers - len)) entry_text (Passes IsCarried (λ e. is_of One e.cookie && has_room peers len (record_len e))) line (λ d is. (plain d, plain_entry peers len d few is, refl)) (h.0 t),
+  λ b. h.1 (begins_map entry_text (Passes IsCarried (λ e. is_of One e.cookie && has_room peers len (record_len e))) (command_text_in in_script) (HasRoom (most_len peers - len)) line (entry_plain peers len) b),
+)
+
+-- and of version 2
+marked_of : (peers len : ℕ) (k : Option ℕ) (c : Command) → is_of Two k ≡ true → IsWithinOf (version_of k) c → HasNumbers c → IfSome k Is64 → len + length (record_spelling k c) ≤ most_len peers
+    → (x : ℕ × Command) × HasMarkedRoom (most_len peers - len) x × (cookie_text k ++ command_text_in in_script c ≡ marked_body x)
+marked_of peers len None c is within numbers cookie fits = absurd cc
+marked_of peers len (Some k) c is within numbers cookie fits = ((k, c), record { cookie = cookie; within = within; numbers = numbers; fits = omega (arith, marked_record k c, fits) }, marked_text (k, c))
+
+entry_marked : (peers len : ℕ) (e : Entry) → Passes IsCarried (λ e. is_of Two e.cookie && has_room peers len (record_len e)) e → (x : ℕ × Command) × HasMarkedRoom (most_len peers - len) x × (entry_text e ≡ marked_body x)
+entry_marked peers len e p =
+    let tests = both_of (is_of Two e.cookie) (has_room peers len (record_len e)) p.goes_on in
+    marked_of peers len e.cookie e.command tests.0 p.fits.within p.fits.numbers p.fits.cookie (room_is peers len (record_len e) tests.1)
+
+marked_entry : (peers len : ℕ) (x : ℕ × Command) → len ≤ most_len peers → HasMarkedRoom (most_len peers - len) x → Passes IsCarried (λ e. is_of Two e.cookie && has_room peers len (record_len e)) (marked x)
+marked_entry peers len x few h =
+    record {
+      fits = record { within = h.within; numbers = h.numbers; cookie = h.cookie };
+      goes_on = room_test peers len (record_len (marked x)) (omega (arith, marked_record x.0 x.1, h.fits, few));
+    }
+
+pub marked_lines : (peers len : ℕ) (line : List ℕ) (r : Bool) → len ≤ most_len peers → IsTrue r ↔ MarkedBegins (most_len peers - len) line → IsTrue r ↔ EntryBegins Two peers len line
+marked_lines peers len line r few h = (
+  λ t. begins_map marked_body (HasMarkedRoom (most_len peers - len)) entry_text (Passes IsCarried (λ e. is_of Two e.cookie && has_room peers len (record_len e))) line (λ x is. (marked x, marked_entry peers len x few is, sym (marked_text x))) (h.0 t),
+  λ b. h.1 (begins_map entry_text (Passes IsCarried (λ e. is_of Two e.cookie && has_room peers len (record_len e))) marked_body (HasMarkedRoom (most_len peers - len)) line (entry_marked peers len) b),
+)

@@ -1,16 +1,20 @@
 -- Texts of two parts with a space between them, read one part after the other.
-use Rattle.std.proofs.Common.{◌≡◌, ℕ, ◌+◌, ◌/◌, ◌%◌, ◌^◌, ◌<◌, Bool, true, false, cond, eqb, List, [], ◌∷◌, ◌++◌, Option, Some, None, codes, refl, sym, ap, subst, ◌∙◌, arith}
+use Rattle.std.proofs.Common.{◌≡◌, ◌≢◌, ℕ, ◌+◌, ◌/◌, ◌%◌, ◌^◌, ◌<◌, Bool, true, false, cond, eqb, List, [], ◌∷◌, ◌++◌, drop, Option, Some, None, codes, refl, sym, ap, subst, ◌∙◌, arith}
 use Rattle.std.specs.Fmt.{decimal}
 use Rattle.std.proofs.lemmas.Fmt.{decimal_by_steps}
+use Rattle.b1_model.specs.declared.commands.Command.{Command}
 use Rattle.b1_model.specs.declared.naming.Limits.{Limits}
 use Rattle.b1_model.specs.declared.naming.PeerSpec.{PeerSpec}
 use Rattle.b1_model.specs.declared.naming.Wire.{Wire}
+use Rattle.b1_model.specs.declared.version.Version.TheVariants.{Two}
 use Rattle.b1_records.specs.Spelling.{Is32, Is64, AreLimits}
 use Rattle.b1_script.specs.Spelling.{IsSpec}
+use Rattle.b1_text_words.specs.declared.items.Form.TheVariants.{Script as in_script}
+use Rattle.b1_text_words.specs.Commands.{command_text_in, IsCommand}
 use Rattle.b1_text_words.specs.Numbers.{script_handle_text}
 use Rattle.b1_text_words.specs.Words.{Reads, IsFree}
 use Rattle.b1_text_words.proofs.Languages.{joined_first, free_append}
-use Rattle.b1_text.specs.Bodies.{two_text, AreTwo, limits_body, pool_body, IsPoolWithLimits, peer_body, end_body, IsEnd, wire_body}
+use Rattle.b1_text.specs.Bodies.{two_text, AreTwo, limits_body, pool_body, IsPoolWithLimits, peer_body, end_body, IsEnd, wire_body, cookie_word, marked_body, IsMarked}
 use Rattle.b1_text.specs.Drafts.{HasWireFields}
 
 not_free : (s : ℕ) (a b : List ℕ) → IsFree s (a ++ s ∷ b) → ⊥
@@ -90,10 +94,30 @@ handle_free n small =
     (decimal_free (n / 2 % 64) (omega arith)))
     (decimal_free n small)
 
+pub cookie_free : (n : ℕ) → Is64 n → IsFree 32 (cookie_word n)
+cookie_free n small = (omega arith, decimal_free n small)
+
+-- ---- a word that stands before a value
+
+pub word_reads : {A : Type 0} {text : A → List ℕ} {IsOf : A → Type 0} (word line rest : List ℕ) (r : Option A) → line ≡ word ++ rest → ((x : A) → word ++ rest ≡ word ++ text x → rest ≡ text x) → Reads text IsOf rest r → Reads (λ a. word ++ text a) IsOf line r
+word_reads {text = text} {IsOf = IsOf} word line rest None split cut reads =
+    record { found = tt; whole = λ x is same. reads.whole x is (cut x (sym split ∙ same)) }
+word_reads {text = text} {IsOf = IsOf} word line rest (Some y) split cut reads =
+    record { found = (reads.found.0, split ∙ ap (λ (z : List ℕ). word ++ z) reads.found.1); whole = λ x is same. reads.whole x is (cut x (sym split ∙ same)) }
+
+pub cookie_reads : (word rest : List ℕ) (r : Option ℕ) → word ≡ codes "#" ++ rest → Reads decimal Is64 rest r → Reads cookie_word Is64 word r
+cookie_reads word rest r split reads = word_reads {text = decimal} {IsOf = Is64} (codes "#") word rest r split (λ x same. ap (λ (z : List ℕ). drop 1 z) same) reads
+
+pub no_cookie_reads : (word : List ℕ) → ((rest : List ℕ) → word ≢ codes "#" ++ rest) → Reads cookie_word Is64 word None
+no_cookie_reads word none = record { found = tt; whole = λ x is same. absurd (none (decimal x) same) }
+
 -- ---- the parts of a peer and of a wire
 
 pub pair_same : (x y : ℕ × ℕ) → x.0 ≡ y.0 → x.1 ≡ y.1 → x ≡ y
 pair_same (a, b) (c, d) h k = ap (λ z. (z, b)) h ∙ ap (λ z. (c, z)) k
+
+pub marked_same : (x y : ℕ × Command) → x.0 ≡ y.0 → x.1 ≡ y.1 → x ≡ y
+marked_same (a, b) (c, d) h k = ap (λ z. (z, b)) h ∙ ap (λ z. (c, z)) k
 
 pub pool_same : (x y : ℕ × Limits) → x.0 ≡ y.0 → x.1 ≡ y.1 → x ≡ y
 pool_same (a, b) (c, d) h k = ap (λ z. (z, b)) h ∙ ap (λ z. (c, z)) k
@@ -160,3 +184,6 @@ wire_cut = record {
   unique = λ v w a b. wire_same v w a b;
   free = free_32;
 }
+
+abbrev pub marked_cut : Cut cookie_word Is64 (command_text_in in_script) (IsCommand in_script Two) marked_body IsMarked
+marked_cut = record { first = λ x. x.0; rest = λ x. x.1; text = λ x. refl; parts = λ x is. (is.cookie, is.command); make = λ x a b. record { cookie = a; command = b }; unique = λ x y a b. marked_same x y a b; free = cookie_free }

@@ -1,24 +1,30 @@
 -- The statement of a line, by the word that the line begins with.
-use Rattle.std.proofs.Common.{◌≡◌, ◌≢◌, ℕ, ◌+◌, ◌*◌, ◌≤◌, Bool, true, false, ◌||◌, eqb, List, [], ◌∷◌, ◌++◌, drop, Option, Some, None, codes, refl, sym, ap, subst, ◌∙◌, append_assoc, arith, eq-eqb}
+use Rattle.std.proofs.Common.{◌≡◌, ◌≢◌, ℕ, ◌+◌, ◌*◌, ◌≤◌, Bool, true, false, ◌||◌, ◌⊎◌, inl, inr, eqb, leb, List, [], ◌∷◌, ◌++◌, drop, Option, Some, None, codes, refl, sym, ap, subst, ◌∙◌, append_assoc, arith, eq-eqb}
+use Rattle.std.specs.Prelude.{IfSome}
 use Rattle.std.specs.Fmt.{decimal}
+use Rattle.std.proofs.lemmas.Fmt.{decimal_digit}
 use Rattle.std.specs.List.{AllByRecursion}
 use Rattle.b1_model.specs.declared.limits.TheConstants.{MOST_SCRIPT}
 use Rattle.b1_model.specs.declared.commands.Command.{Command}
 use Rattle.b1_model.specs.declared.commands.Command.TheVariants.{Disconnect, Query, Reset, Limit, Release, Destroy, SliceRelease, Send, Recv, Await}
 use Rattle.b1_model.specs.declared.naming.PeerSpec.{PeerSpec}
 use Rattle.b1_model.specs.declared.naming.Wire.{Wire}
-use Rattle.b1_records.specs.Spelling.{Is32, Is64}
-use Rattle.b1_script.specs.Spelling.{IsSpec}
+use Rattle.b1_model.specs.declared.version.Version.{Version}
+use Rattle.b1_model.specs.declared.version.Version.TheVariants.{One, Two}
+use Rattle.b1_model.specs.Versions.{version_of, version_number}
+use Rattle.b1_records.specs.Spelling.{Is32, Is64, IsWithin, IsWithin2, HasNumbers}
+use Rattle.b1_script.specs.Spelling.{IsSpec, IsWithinOf}
 use Rattle.b1_text_words.specs.declared.items.Form.TheVariants.{Script as in_script}
 use Rattle.b1_text_words.specs.declared.items.Item.TheVariants.{UpTo}
-use Rattle.b1_text_words.specs.Commands.{command_text_in, IsCommand}
+use Rattle.b1_text_words.specs.Commands.{command_text_in, cookie_text, IsCommand}
 use Rattle.b1_text_words.specs.Items.{item_text, AreItems}
 use Rattle.b1_text_words.specs.Numbers.{list_text, script_handle_text}
 use Rattle.b1_text_words.specs.Words.{Reads}
+use Rattle.b1_text.specs.declared.statement.Entry.{Entry}
 use Rattle.b1_text.specs.declared.statement.Statement.{Statement}
 use Rattle.b1_text.specs.declared.statement.Statement.TheVariants as says
-use Rattle.b1_text.specs.Texts.{statement_text, peer_text, wire_text}
-use Rattle.b1_text.specs.Bodies.{peer_body, wire_body}
+use Rattle.b1_text.specs.Texts.{plain, marked, entry_text, statement_text, peer_text, wire_text}
+use Rattle.b1_text.specs.Bodies.{peer_body, wire_body, cookie_word, marked_body, IsMarked}
 use Rattle.b1_text.specs.Nexts.{load_text}
 use Rattle.b1_text.proofs.Sends.{flag_words, load_of, send_split}
 use Rattle.b1_text.specs.Drafts.{HasWireFields, IsCarried, Fits}
@@ -31,7 +37,7 @@ first (b ∷ bs) = b
 
 -- the bytes that commands begin with
 unfoldable pub starts : ℕ → Bool
-starts b = (eqb b 97) || (eqb b 100) || (eqb b 108) || (eqb b 113) || (eqb b 114) || (eqb b 115)
+starts b = (eqb b 35) || (eqb b 97) || (eqb b 100) || (eqb b 108) || (eqb b 113) || (eqb b 114) || (eqb b 115)
 
 send_starts : (go_on : Bool) (x : List ℕ) → starts (first (flag_words go_on ++ x)) ≡ true
 unfolding starts first
@@ -51,8 +57,13 @@ command_starts (Send s) = ap (λ (x : List ℕ). starts (first x)) (send_split s
 command_starts Recv = refl
 command_starts Await = refl
 
-pub no_command : (word : List ℕ) (c : Command) → starts (first word) ≡ false → word ≡ command_text_in in_script c → ⊥
-no_command word c is same = let yes : starts (first word) ≡ true = ap (λ (x : List ℕ). starts (first x)) same ∙ command_starts c in cc
+entry_starts : (k : Option ℕ) (c : Command) → starts (first (cookie_text k ++ command_text_in in_script c)) ≡ true
+unfolding starts first
+entry_starts None c = command_starts c
+entry_starts (Some n) c = refl
+
+pub no_command : (word : List ℕ) (e : Entry) → starts (first word) ≡ false → word ≡ entry_text e → ⊥
+no_command word e is same = let yes : starts (first word) ≡ true = ap (λ (x : List ℕ). starts (first x)) same ∙ entry_starts e.cookie e.command in cc
 
 -- the first two bytes, as a number
 two : List ℕ → ℕ
@@ -104,7 +115,7 @@ pub only_clock : (s : Statement) (body : List ℕ) → Fits s → codes "clock "
 unfolding starts first two
 only_clock (says.Clock n) body fits e = (n, refl, fits, ap (λ (x : List ℕ). drop 6 x) e)
 only_clock (says.Command c) body fits e = absurd (no_command (codes "clock " ++ body) c refl e)
-only_clock says.Name body fits e = absurd (differ e refl)
+only_clock (says.Name v) body fits e = absurd (differ e refl)
 only_clock (says.Peer p) body fits e = absurd (differ e refl)
 only_clock (says.Wire w) body fits e = absurd (differ e refl)
 only_clock (says.Commands p) body fits e = absurd (differ e refl)
@@ -114,7 +125,7 @@ pub only_peer : (s : Statement) (body : List ℕ) → Fits s → codes "peer " +
 unfolding starts first two
 only_peer (says.Peer p) body fits e = (p, refl, fits, ap (λ (x : List ℕ). drop 5 x) (e ∙ peer_split p))
 only_peer (says.Command c) body fits e = absurd (no_command (codes "peer " ++ body) c refl e)
-only_peer says.Name body fits e = absurd (differ e refl)
+only_peer (says.Name v) body fits e = absurd (differ e refl)
 only_peer (says.Clock n) body fits e = absurd (differ e refl)
 only_peer (says.Wire w) body fits e = absurd (differ e refl)
 only_peer (says.Commands p) body fits e = absurd (differ e refl)
@@ -124,7 +135,7 @@ pub only_wire : (s : Statement) (body : List ℕ) → Fits s → codes "wire " +
 unfolding starts first two
 only_wire (says.Wire w) body fits e = (w, refl, fits, ap (λ (x : List ℕ). drop 5 x) (e ∙ wire_split w))
 only_wire (says.Command c) body fits e = absurd (no_command (codes "wire " ++ body) c refl e)
-only_wire says.Name body fits e = absurd (differ e refl)
+only_wire (says.Name v) body fits e = absurd (differ e refl)
 only_wire (says.Clock n) body fits e = absurd (differ e refl)
 only_wire (says.Peer p) body fits e = absurd (differ e refl)
 only_wire (says.Commands p) body fits e = absurd (differ e refl)
@@ -134,7 +145,7 @@ pub only_commands : (s : Statement) (body : List ℕ) → Fits s → codes "comm
 unfolding starts first two
 only_commands (says.Commands n) body fits e = (n, refl, fits, ap (λ (x : List ℕ). drop 9 x) e)
 only_commands (says.Command c) body fits e = absurd (no_command (codes "commands " ++ body) c refl e)
-only_commands says.Name body fits e = absurd (differ e refl)
+only_commands (says.Name v) body fits e = absurd (differ e refl)
 only_commands (says.Clock n) body fits e = absurd (differ e refl)
 only_commands (says.Peer p) body fits e = absurd (differ e refl)
 only_commands (says.Wire w) body fits e = absurd (differ e refl)
@@ -152,7 +163,7 @@ pub only_turns : (s : Statement) (body : List ℕ) → Fits s → codes "turns "
 unfolding starts first two
 only_turns (says.Turns ts) body fits e = (ts, refl, record { items = each_down ts fits.peers; few = fits.few }, ap (λ (x : List ℕ). drop 6 x) e)
 only_turns (says.Command c) body fits e = absurd (no_command (codes "turns " ++ body) c refl e)
-only_turns says.Name body fits e = absurd (differ e refl)
+only_turns (says.Name v) body fits e = absurd (differ e refl)
 only_turns (says.Clock n) body fits e = absurd (differ e refl)
 only_turns (says.Peer p) body fits e = absurd (differ e refl)
 only_turns (says.Wire w) body fits e = absurd (differ e refl)
@@ -178,73 +189,236 @@ turns_kind = record { texts = λ ts. refl; fits = λ ts h. record { peers = each
 
 -- ---- the name, and commands
 
-pub only_name : (s : Statement) → codes "bus1 script 1" ≡ statement_text s → s ≡ says.Name
-unfolding starts first two
-only_name says.Name e = refl
-only_name (says.Command c) e = absurd (no_command (codes "bus1 script 1") c refl e)
-only_name (says.Clock n) e = absurd (differ e refl)
-only_name (says.Peer p) e = absurd (differ e refl)
-only_name (says.Wire w) e = absurd (differ e refl)
-only_name (says.Commands n) e = absurd (differ e refl)
-only_name (says.Turns ts) e = absurd (differ e refl)
+-- the number of a version
+abbrev pub version_text : Version → List ℕ
+version_text version = decimal (version_number version)
 
-pub name_reads : (line : List ℕ) → line ≡ codes "bus1 script 1" → Reads statement_text Fits line (Some says.Name)
-name_reads line same = record { found = (tt, same); whole = λ s fits e. ap (λ z. Some z) (sym (only_name s (sym same ∙ e))) }
+abbrev pub AnyVersion : Version → Type 0
+AnyVersion version = Unit {0}
+
+pub only_name : (s : Statement) (body : List ℕ) → Fits s → codes "bus1 script " ++ body ≡ statement_text s → (v : Version) × (s ≡ says.Name v) × AnyVersion v × (body ≡ version_text v)
+unfolding starts first two
+only_name (says.Name v) body fits e = (v, refl, tt, ap (λ (x : List ℕ). drop 12 x) e)
+only_name (says.Command c) body fits e = absurd (no_command (codes "bus1 script " ++ body) c refl e)
+only_name (says.Clock n) body fits e = absurd (differ e refl)
+only_name (says.Peer p) body fits e = absurd (differ e refl)
+only_name (says.Wire w) body fits e = absurd (differ e refl)
+only_name (says.Commands n) body fits e = absurd (differ e refl)
+only_name (says.Turns ts) body fits e = absurd (differ e refl)
+
+abbrev pub name_kind : Kind (codes "bus1 script ") version_text AnyVersion (λ v. says.Name v)
+name_kind = record { texts = λ v. refl; fits = λ v h. tt; only = only_name }
+
+pub version_digit : (v : Version) → version_text v ≡ (48 + version_number v) ∷ []
+version_digit One = decimal_digit 1 (omega arith)
+version_digit Two = decimal_digit 2 (omega arith)
+
+abbrev head_of : List ℕ → ℕ
+head_of [] = 0
+head_of (b ∷ bs) = b
+
+same_number : (v w : Version) → version_number v ≡ version_number w → v ≡ w
+same_number One One e = refl
+same_number One Two e = absurd (omega (arith, e))
+same_number Two One e = absurd (omega (arith, e))
+same_number Two Two e = refl
+
+pub same_digit : (v w : Version) → version_text v ≡ version_text w → v ≡ w
+same_digit v w e =
+    let heads : 48 + version_number v ≡ 48 + version_number w = ap head_of (sym (version_digit v) ∙ e ∙ version_digit w) in
+    same_number v w (omega (arith, heads))
+
+-- the line of a version
+pub version_reads : (body : List ℕ) (v : Version) → body ≡ (48 + version_number v) ∷ [] → Reads statement_text Fits (codes "bus1 script " ++ body) (Some (says.Name v))
+version_reads body v same =
+    let is : body ≡ version_text v = same ∙ sym (version_digit v) in
+    some_reads name_kind body (Some v) v (record { found = (tt, is); whole = λ w h e. ap (λ z. Some z) (same_digit v w (sym is ∙ e)) }) refl
+
+pub no_version_reads : (body : List ℕ) → body ≢ codes "1" → body ≢ codes "2" → Reads statement_text Fits (codes "bus1 script " ++ body) None
+no_version_reads body one two = none_reads name_kind body None (record { found = tt; whole = λ w h e. absurd (by w (e ∙ version_digit w)) }) refl
+  where
+    by : (w : Version) → body ≡ (48 + version_number w) ∷ [] → ⊥
+    by One e = one e
+    by Two e = two e
 
 -- a line that begins with none of the words of other statements
 pub record IsOther (line : List ℕ) : Type 0 where
-  pub name : line ≢ codes "bus1 script 1"
+  pub name : (rest : List ℕ) → line ≢ codes "bus1 script " ++ rest
   pub clock : (rest : List ℕ) → line ≢ codes "clock " ++ rest
   pub peer : (rest : List ℕ) → line ≢ codes "peer " ++ rest
   pub wire : (rest : List ℕ) → line ≢ codes "wire " ++ rest
   pub commands : (rest : List ℕ) → line ≢ codes "commands " ++ rest
   pub turns : (rest : List ℕ) → line ≢ codes "turns " ++ rest
 
-pub only_command : (line : List ℕ) (s : Statement) → IsOther line → Fits s → line ≡ statement_text s → (c : Command) × (s ≡ says.Command c) × IsCarried c × (line ≡ command_text_in in_script c)
-only_command line (says.Command c) other fits e = (c, refl, fits, e)
-only_command line says.Name other fits e = absurd (other.name e)
+only_command : (line : List ℕ) (s : Statement) → IsOther line → Fits s → line ≡ statement_text s → (e : Entry) × (s ≡ says.Command e) × IsCarried e × (line ≡ entry_text e)
+only_command line (says.Command e) other fits same = (e, refl, fits, same)
+only_command line (says.Name v) other fits e = absurd (other.name (version_text v) e)
 only_command line (says.Clock n) other fits e = absurd (other.clock (decimal n) e)
 only_command line (says.Peer p) other fits e = absurd (other.peer (peer_body p) (e ∙ peer_split p))
 only_command line (says.Wire w) other fits e = absurd (other.wire (wire_body w) (e ∙ wire_split w))
 only_command line (says.Commands n) other fits e = absurd (other.commands (decimal n) e)
 only_command line (says.Turns ts) other fits e = absurd (other.turns (list_text decimal ts) e)
 
--- a command of a script's text is one that a record can carry
-pub carried : (c : Command) → IsCommand in_script c → IsCarried c
-carried Disconnect h = record { within = tt; numbers = tt }
-carried Query h = record { within = tt; numbers = tt }
-carried (Reset limits) h = record { within = tt; numbers = record { entries = h.entries; bytes = h.bytes; handles = h.handles } }
-carried (Limit limits) h = absurd h
-carried (Release number) h = record { within = tt; numbers = h }
-carried (Destroy numbers) h = record { within = h.few; numbers = h.items }
-carried (SliceRelease offset) h = record { within = tt; numbers = h }
-carried (Send s) h = record { within = record { to = h.to.few; with = h.with.few; payload = h.payload.few }; numbers = record { to = h.to.items; with = h.with.items; payload = h.payload.items } }
-carried Recv h = record { within = tt; numbers = tt }
-carried Await h = record { within = tt; numbers = tt }
+-- what a line can say of a command is what a record can carry
+within_two : (c : Command) → IsCommand in_script Two c → IsWithin2 c
+within_two Disconnect h = tt
+within_two Query h = tt
+within_two (Reset limits) h = tt
+within_two (Limit limits) h = tt
+within_two (Release number) h = tt
+within_two (Destroy numbers) h = h.few
+within_two (SliceRelease offset) h = tt
+within_two (Send s) h = record { to = h.to.few; with = h.with.few; payload = h.payload.few }
+within_two Recv h = tt
+within_two Await h = tt
 
-pub is_command : (c : Command) → IsCarried c → IsCommand in_script c
-is_command Disconnect h = tt
-is_command Query h = tt
-is_command (Reset limits) h = record { entries = h.numbers.entries; bytes = h.numbers.bytes; handles = h.numbers.handles }
-is_command (Limit limits) h = absurd h.within
-is_command (Release number) h = h.numbers
-is_command (Destroy numbers) h = record { items = h.numbers; few = h.within }
-is_command (SliceRelease offset) h = h.numbers
-is_command (Send s) h = record { to = record { items = h.numbers.to; few = h.within.to }; with = record { items = h.numbers.with; few = h.within.with }; payload = record { items = h.numbers.payload; few = h.within.payload } }
-is_command Recv h = tt
-is_command Await h = tt
+numbers_two : (c : Command) → IsCommand in_script Two c → HasNumbers c
+numbers_two Disconnect h = tt
+numbers_two Query h = tt
+numbers_two (Reset limits) h = record { entries = h.entries; bytes = h.bytes; handles = h.handles }
+numbers_two (Limit limits) h = record { entries = h.entries; bytes = h.bytes; handles = h.handles }
+numbers_two (Release number) h = h
+numbers_two (Destroy numbers) h = h.items
+numbers_two (SliceRelease offset) h = h
+numbers_two (Send s) h = record { to = h.to.items; with = h.with.items; payload = h.payload.items }
+numbers_two Recv h = tt
+numbers_two Await h = tt
 
-pub command_reads : (line : List ℕ) (r : Option Command) (c : Command) → IsOther line → Reads (command_text_in in_script) (IsCommand in_script) line r → r ≡ Some c → Reads statement_text Fits line (Some (says.Command c))
-command_reads line r c other reads is =
-    let at = subst (λ o. Reads (command_text_in in_script) (IsCommand in_script) line o) is reads in
+pub command_two : (c : Command) → IsWithin2 c → HasNumbers c → IsCommand in_script Two c
+command_two Disconnect w h = tt
+command_two Query w h = tt
+command_two (Reset limits) w h = record { entries = h.entries; bytes = h.bytes; handles = h.handles }
+command_two (Limit limits) w h = record { entries = h.entries; bytes = h.bytes; handles = h.handles }
+command_two (Release number) w h = h
+command_two (Destroy numbers) w h = record { items = h; few = w }
+command_two (SliceRelease offset) w h = h
+command_two (Send s) w h = record { to = record { items = h.to; few = w.to }; with = record { items = h.with; few = w.with }; payload = record { items = h.payload; few = w.payload } }
+command_two Recv w h = tt
+command_two Await w h = tt
+
+two_of_one : (c : Command) → IsCommand in_script One c → IsCommand in_script Two c
+two_of_one Disconnect h = tt
+two_of_one Query h = tt
+two_of_one (Reset limits) h = h
+two_of_one (Limit limits) h = absurd h
+two_of_one (Release number) h = h
+two_of_one (Destroy numbers) h = h
+two_of_one (SliceRelease offset) h = h
+two_of_one (Send s) h = h
+two_of_one Recv h = tt
+two_of_one Await h = tt
+
+within_one : (c : Command) → IsCommand in_script One c → IsWithin c
+within_one Disconnect h = tt
+within_one Query h = tt
+within_one (Reset limits) h = tt
+within_one (Limit limits) h = absurd h
+within_one (Release number) h = tt
+within_one (Destroy numbers) h = h.few
+within_one (SliceRelease offset) h = tt
+within_one (Send s) h = record { to = h.to.few; with = h.with.few; payload = h.payload.few }
+within_one Recv h = tt
+within_one Await h = tt
+
+pub command_one : (c : Command) → IsWithin c → HasNumbers c → IsCommand in_script One c
+command_one Disconnect w h = tt
+command_one Query w h = tt
+command_one (Reset limits) w h = record { entries = h.entries; bytes = h.bytes; handles = h.handles }
+command_one (Limit limits) w h = absurd w
+command_one (Release number) w h = h
+command_one (Destroy numbers) w h = record { items = h; few = w }
+command_one (SliceRelease offset) w h = h
+command_one (Send s) w h = record { to = record { items = h.to; few = w.to }; with = record { items = h.with; few = w.with }; payload = record { items = h.payload; few = w.payload } }
+command_one Recv w h = tt
+command_one Await w h = tt
+
+-- a command alone, and one behind its cookie
+pub plain_carried : (c : Command) → IsCommand in_script One c → IsCarried (plain c)
+plain_carried c h = record { within = within_one c h; numbers = numbers_two c (two_of_one c h); cookie = tt }
+
+pub marked_carried : (x : ℕ × Command) → IsMarked x → IsCarried (marked x)
+marked_carried x h = record { within = within_two x.1 h.command; numbers = numbers_two x.1 h.command; cookie = h.cookie }
+
+pub marked_text : (x : ℕ × Command) → entry_text (marked x) ≡ marked_body x
+marked_text x = append_assoc (cookie_word x.0) (codes " ") (command_text_in in_script x.1)
+
+-- the entry of a line is a command alone, or one behind its cookie
+abbrev IsEither : List ℕ → Entry → Type 0
+IsEither line e = ((c : Command) × (e ≡ plain c) × IsCommand in_script One c × (line ≡ command_text_in in_script c)) ⊎ ((x : ℕ × Command) × (e ≡ marked x) × IsMarked x × (line ≡ marked_body x))
+
+either : (line : List ℕ) (k : Option ℕ) (c : Command) → IsWithinOf (version_of k) c → HasNumbers c → IfSome k Is64 → line ≡ cookie_text k ++ command_text_in in_script c → IsEither line (record { cookie = k; command = c })
+either line None c within numbers fits same = inl (c, refl, command_one c within numbers, same)
+either line (Some n) c within numbers fits same = inr ((n, c), refl, record { cookie = fits; command = command_two c within numbers }, same ∙ marked_text (n, c))
+
+-- a command's words begin with a letter, and a cookie with another byte
+letters : ℕ → Bool
+letters b = leb 97 b
+
+send_letters : (go_on : Bool) (x : List ℕ) → letters (first (flag_words go_on ++ x)) ≡ true
+unfolding letters first
+send_letters true x = refl
+send_letters false x = refl
+
+command_letters : (c : Command) → letters (first (command_text_in in_script c)) ≡ true
+unfolding letters first
+command_letters Disconnect = refl
+command_letters Query = refl
+command_letters (Reset limits) = refl
+command_letters (Limit limits) = refl
+command_letters (Release number) = refl
+command_letters (Destroy numbers) = refl
+command_letters (SliceRelease offset) = refl
+command_letters (Send s) = ap (λ (x : List ℕ). letters (first x)) (send_split s) ∙ send_letters s.go_on (load_text (load_of s))
+command_letters Recv = refl
+command_letters Await = refl
+
+hash_first : (x : ℕ × Command) → letters (first (marked_body x)) ≡ false
+unfolding letters first
+hash_first x = refl
+
+pub hash_or_letter : (x : ℕ × Command) (c : Command) → marked_body x ≡ command_text_in in_script c → ⊥
+hash_or_letter x c e = let both : false ≡ true = sym (hash_first x) ∙ ap (λ (w : List ℕ). letters (first w)) e ∙ command_letters c in cc
+
+-- a line that says a command behind its cookie
+pub marked_reads : (line : List ℕ) (m : Option (ℕ × Command)) (x : ℕ × Command) → IsOther line → Reads marked_body IsMarked line m → m ≡ Some x → Reads statement_text Fits line (Some (says.Command (marked x)))
+marked_reads line m x other reads is =
+    let at = subst (λ o. Reads marked_body IsMarked line o) is reads in
     record {
-      found = (carried c at.found.0, at.found.1);
+      found = (marked_carried x at.found.0, at.found.1 ∙ sym (marked_text x));
       whole = λ s fits same.
           let o = only_command line s other fits same in
-          both_same c o.0 s (λ d. says.Command d) (at.whole o.0 (is_command o.0 o.2) o.3) o.1;
+          elim (either line o.0.cookie o.0.command o.2.within o.2.numbers o.2.cookie o.3) [
+            | inl p ↦ absurd (hash_or_letter x p.0 (sym at.found.1 ∙ p.3))
+            | inr y ↦ both_same x y.0 s (λ d. says.Command (marked d)) (at.whole y.0 y.2 y.3) (o.1 ∙ ap (λ (e : Entry). says.Command e) y.1)
+          ];
     }
 
-pub nothing_reads : (line : List ℕ) (r : Option Command) → IsOther line → Reads (command_text_in in_script) (IsCommand in_script) line r → r ≡ None → Reads statement_text Fits line None
-nothing_reads line r other reads is =
-    let at = subst (λ o. Reads (command_text_in in_script) (IsCommand in_script) line o) is reads in
-    record { found = tt; whole = λ s fits same. let o = only_command line s other fits same in let both : None ≡ Some o.0 = at.whole o.0 (is_command o.0 o.2) o.3 in absurd (cc) }
+-- a line that says a command alone
+pub plain_reads : (line : List ℕ) (m : Option (ℕ × Command)) (r : Option Command) (c : Command) → IsOther line → Reads marked_body IsMarked line m → m ≡ None → Reads (command_text_in in_script) (IsCommand in_script One) line r → r ≡ Some c → Reads statement_text Fits line (Some (says.Command (plain c)))
+plain_reads line m r c other unmarked none reads is =
+    let at = subst (λ o. Reads (command_text_in in_script) (IsCommand in_script One) line o) is reads in
+    let no = subst (λ o. Reads marked_body IsMarked line o) none unmarked in
+    record {
+      found = (plain_carried c at.found.0, at.found.1);
+      whole = λ s fits same.
+          let o = only_command line s other fits same in
+          elim (either line o.0.cookie o.0.command o.2.within o.2.numbers o.2.cookie o.3) [
+            | inl p ↦ both_same c p.0 s (λ d. says.Command (plain d)) (at.whole p.0 p.2 p.3) (o.1 ∙ ap (λ (e : Entry). says.Command e) p.1)
+            | inr y ↦ let both : None ≡ Some y.0 = no.whole y.0 y.2 y.3 in absurd (cc)
+          ];
+    }
+
+-- a line that says neither
+pub nothing_reads : (line : List ℕ) (m : Option (ℕ × Command)) (r : Option Command) → IsOther line → Reads marked_body IsMarked line m → m ≡ None → Reads (command_text_in in_script) (IsCommand in_script One) line r → r ≡ None → Reads statement_text Fits line None
+nothing_reads line m r other unmarked none reads is =
+    let at = subst (λ o. Reads (command_text_in in_script) (IsCommand in_script One) line o) is reads in
+    let no = subst (λ o. Reads marked_body IsMarked line o) none unmarked in
+    record {
+      found = tt;
+      whole = λ s fits same.
+          let o = only_command line s other fits same in
+          elim (either line o.0.cookie o.0.command o.2.within o.2.numbers o.2.cookie o.3) [
+            | inl p ↦ let both : None ≡ Some p.0 = at.whole p.0 p.2 p.3 in absurd (cc)
+            | inr y ↦ let both : None ≡ Some y.0 = no.whole y.0 y.2 y.3 in absurd (cc)
+          ];
+    }

@@ -1,5 +1,6 @@
 -- Each statement of a script fits its fields, and its text has no line feed.
-use Rattle.std.proofs.Common.{◌≡◌, ◌≢◌, ℕ, ◌+◌, ◌-◌, ◌/◌, ◌%◌, ◌^◌, ◌<◌, ◌≤◌, Bool, true, false, not, cond, eqb, ltb, List, [], ◌∷◌, ◌++◌, length, map, refl, sym, subst, codes, arith}
+use Rattle.std.proofs.Common.{◌≡◌, ◌≢◌, ℕ, ◌+◌, ◌-◌, ◌/◌, ◌%◌, ◌^◌, ◌<◌, ◌≤◌, Bool, true, false, not, cond, eqb, ltb, List, [], ◌∷◌, ◌++◌, length, map, Option, Some, None, refl, sym, subst, ◌∙◌, codes, arith}
+use Rattle.std.specs.Prelude.{IfSome}
 use Rattle.std.specs.Fmt.{decimal}
 use Rattle.std.specs.List.{flat_map, enumerate_from, list_all, AllByRecursion}
 use Rattle.std.proofs.lemmas.Bool.{eqb-false, not-true}
@@ -7,20 +8,28 @@ use Rattle.std.proofs.lemmas.Fmt.{decimal_by_steps}
 use Rattle.b1_model.specs.declared.commands.Command.{Command}
 use Rattle.b1_model.specs.declared.commands.Command.TheVariants.{Disconnect, Query, Reset, Limit, Release, Destroy, SliceRelease, Send, Recv, Await}
 use Rattle.b1_model.specs.declared.commands.SendCmd.{SendCmd}
+use Rattle.b1_model.specs.declared.naming.Limits.{Limits}
 use Rattle.b1_model.specs.declared.naming.PeerSpec.{PeerSpec}
 use Rattle.b1_model.specs.declared.naming.Wire.{Wire}
+use Rattle.b1_model.specs.declared.limits.TheConstants.{MOST_PEERS}
+use Rattle.b1_model.specs.declared.version.Version.{Version}
+use Rattle.b1_model.specs.declared.version.Version.TheVariants.{One, Two}
 use Rattle.b1_model.specs.Opening.{after_wire, AreWired}
-use Rattle.b1_records.specs.Spelling.{Is32, Is64, IsWithin, HasNumbers, IsSend}
+use Rattle.b1_model.specs.Versions.{version_of}
+use Rattle.b1_records.specs.Spelling.{Is32, Is64, AreLimits, HasNumbers, IsSend}
 use Rattle.b1_script.specs.declared.script.Script.{Script}
 use Rattle.b1_script.specs.Spelling.{IsSpec, IsWire}
+use Rattle.b1_script.proofs.Laws.{most_under}
 use Rattle.b1_text_words.specs.declared.items.Form.TheVariants.{Script as in_script}
-use Rattle.b1_text_words.specs.Commands.{command_text_in, HasWords}
+use Rattle.b1_text_words.specs.Commands.{command_text_in, cookie_text, limits_text, HasWords}
 use Rattle.b1_text_words.specs.Numbers.{script_handle_text, script_offset_text, list_text, hex_pair, hex_text}
+use Rattle.b1_text.specs.declared.statement.Entry.{Entry}
 use Rattle.b1_text.specs.declared.statement.Statement.{Statement}
 use Rattle.b1_text.specs.declared.statement.Statement.TheVariants as says
-use Rattle.b1_text.specs.Texts.{statement_text, list_statements, lists_statements, statements}
+use Rattle.b1_text.specs.Texts.{name_text, statement_text, entries_said, list_statements, lists_statements, statements}
 use Rattle.b1_text.specs.Accepted.{IsWritable, IsLine}
 use Rattle.b1_text.specs.Drafts.{IsCarried, Fits}
+use Rattle.b1_text.proofs.Entries.{said_count, said_carried}
 use Rattle.b1_text.proofs.Lengths.{length_parts}
 use Rattle.b1_text.proofs.Judging.{both_of}
 use Rattle.b1_text.specs.Nexts.{load_text}
@@ -40,34 +49,37 @@ peers_fit : (ps : List PeerSpec) → AllByRecursion IsSpec ps → AllByRecursion
 peers_fit [] h = tt
 peers_fit (p ∷ ps) h = (h.0, peers_fit ps h.1)
 
-wires_fit : (n : ℕ) (ws held : List Wire) → n ≤ 64 → AreWired n held ws → AllByRecursion IsWire ws → AllByRecursion Fits (map says.Wire ws)
+wires_fit : (n : ℕ) (ws held : List Wire) → n ≤ MOST_PEERS → AreWired n held ws → AllByRecursion IsWire ws → AllByRecursion Fits (map says.Wire ws)
 wires_fit n [] held few h k = tt
 wires_fit n (w ∷ ws) held few h k = (record { from = omega (arith, h.0.from, few); to = omega (arith, h.0.to, few); number = k.0 }, wires_fit n ws (after_wire held w) few h.1 k.1)
 
-commands_fit : (cs : List Command) → AllByRecursion IsWithin cs → AllByRecursion HasNumbers cs → AllByRecursion Fits (map says.Command cs)
-commands_fit [] h k = tt
-commands_fit (c ∷ cs) h k = (record { within = h.0; numbers = k.0 }, commands_fit cs h.1 k.1)
+commands_fit : (es : List Entry) → AllByRecursion IsCarried es → AllByRecursion Fits (map says.Command es)
+commands_fit [] h = tt
+commands_fit (e ∷ es) h = (h.0, commands_fit es h.1)
 
-lists_fit : (ls : List (List Command)) (n : ℕ) → n + length ls ≤ 64 → AllByRecursion (AllByRecursion IsWithin) ls → AllByRecursion (AllByRecursion HasNumbers) ls → AllByRecursion Fits (flat_map list_statements (enumerate_from n ls))
-lists_fit [] n few h k = tt
-lists_fit (cs ∷ ls) n few h k =
-    all_both Fits (says.Commands n ∷ map says.Command cs) (flat_map list_statements (enumerate_from (n + 1) ls)) (omega (arith, few), commands_fit cs h.0 k.0) (lists_fit ls (n + 1) (omega (arith, few)) h.1 k.1)
+lists_fit : (ls : List (List Entry)) (n : ℕ) → n + length ls ≤ MOST_PEERS → AllByRecursion (AllByRecursion IsCarried) ls → AllByRecursion Fits (flat_map list_statements (enumerate_from n ls))
+lists_fit [] n few h = tt
+lists_fit (es ∷ ls) n few h =
+    all_both Fits (says.Commands n ∷ map says.Command es) (flat_map list_statements (enumerate_from (n + 1) ls)) (omega (arith, few), commands_fit es h.0) (lists_fit ls (n + 1) (omega (arith, few)) h.1)
 
-turns_fit : (n : ℕ) (ts : List ℕ) → n ≤ 64 → AllByRecursion (λ p. p < n) ts → AllByRecursion Is32 ts
+turns_fit : (n : ℕ) (ts : List ℕ) → n ≤ MOST_PEERS → AllByRecursion (λ p. p < n) ts → AllByRecursion Is32 ts
 turns_fit n [] few h = tt
 turns_fit n (t ∷ ts) few h = (omega (arith, h.0, few), turns_fit n ts few h.1)
 
 pub statements_fit : (s : Script) → IsWritable s → AllByRecursion Fits (statements s)
 statements_fit s is =
-    let o = is.has_spelling.opening in
-    let few = is.has_spelling.few in
-    let n : length s.commands ≡ length s.opening.peers = is.has_spelling.lists in
-    let start : AllByRecursion Fits (says.Name ∷ says.Clock s.opening.first_clock ∷ (map says.Peer s.opening.peers ++ map says.Wire s.opening.wires))
+    let has = is.has_spelling in
+    let o = has.opening in
+    let said : List (List Entry) = entries_said s.cookies s.commands in
+    let few : length s.opening.peers ≤ MOST_PEERS = o.most in
+    let n : length said ≡ length s.opening.peers = said_count s.cookies s.commands has.cookies ∙ has.lists in
+    let name : Statement = says.Name (version_of s.cookies) in
+    let front : List Statement = name ∷ says.Clock s.opening.first_clock ∷ (map says.Peer s.opening.peers ++ map says.Wire s.opening.wires) in
+    let start : AllByRecursion Fits front
     = (tt, (omega (arith, o.clock), all_both Fits (map says.Peer s.opening.peers) (map says.Wire s.opening.wires) (peers_fit s.opening.peers is.fields.peers) (wires_fit (length s.opening.peers) s.opening.wires [] few o.wires is.fields.wires))) in
-    let lists = lists_fit s.commands 0 (omega (arith, n, few)) is.has_spelling.commands is.fields.commands in
-    all_both Fits (says.Name ∷ says.Clock s.opening.first_clock ∷ (map says.Peer s.opening.peers ++ map says.Wire s.opening.wires) ++ lists_statements s.commands) (says.Turns s.turns ∷ [])
-    (all_both Fits (says.Name ∷ says.Clock s.opening.first_clock ∷ (map says.Peer s.opening.peers ++ map says.Wire s.opening.wires)) (lists_statements s.commands) start lists)
-    (record { peers = turns_fit (length s.opening.peers) s.turns few is.has_spelling.turns; few = omega (arith, length_parts s, is.has_spelling.short) }, tt)
+    let lists = lists_fit said 0 (omega (arith, n, few)) (said_carried s.cookies s.commands has.commands is.fields.commands is.fields.cookies) in
+    all_both Fits (front ++ lists_statements said) (says.Turns s.turns ∷ []) (all_both Fits front (lists_statements said) start lists)
+    (record { peers = turns_fit (length s.opening.peers) s.turns few has.turns; few = omega (arith, length_parts s has.cookies, has.short, most_under (length s.opening.peers)) }, tt)
 
 -- ---- no line feed
 
@@ -143,38 +155,40 @@ load_clean s h =
     let cargo = spaced_off (list_text script_handle_text s.with) (codes "data " ++ hex_text s.payload) with tail in
     spaced_off (list_text script_handle_text s.to) (codes "with " ++ (list_text script_handle_text s.with ++ 32 ∷ (codes "data " ++ hex_text s.payload))) to (behind (codes "with ") (list_text script_handle_text s.with ++ 32 ∷ (codes "data " ++ hex_text s.payload)) refl cargo)
 
--- what a record can carry has words
-pub has_words : (c : Command) → IsWithin c → HasWords in_script c
-has_words Disconnect h = tt
-has_words Query h = tt
-has_words (Reset limits) h = tt
-has_words (Limit limits) h = absurd h
-has_words (Release number) h = tt
-has_words (Destroy numbers) h = tt
-has_words (SliceRelease offset) h = tt
-has_words (Send send) h = tt
-has_words Recv h = tt
-has_words Await h = tt
+-- a command of a script has words
+pub has_words : (c : Command) → HasWords in_script c
+has_words c = tt
 
-command_clean : (c : Command) → IsCarried c → IsLine (command_text_in in_script c)
+limits_clean : (word : List ℕ) (limits : Limits) → list_all (λ b. not (eqb b 10)) word ≡ true → AreLimits limits → IsLine (word ++ limits_text limits)
+limits_clean word limits test h =
+    behind word (limits_text limits) test
+    (spaced (decimal limits.entries ++ space ++ decimal limits.bytes) (decimal limits.handles)
+    (spaced (decimal limits.entries) (decimal limits.bytes) (decimal_clean limits.entries (omega (arith, h.entries))) (decimal_clean limits.bytes (omega (arith, h.bytes))))
+    (decimal_clean limits.handles (omega (arith, h.handles))))
+
+command_clean : (c : Command) → HasNumbers c → IsLine (command_text_in in_script c)
 command_clean Disconnect h = clean (codes "disconnect") refl
 command_clean Query h = clean (codes "query") refl
-command_clean (Reset limits) h =
-    behind (codes "reset ") (decimal limits.entries ++ space ++ decimal limits.bytes ++ space ++ decimal limits.handles) refl
-    (spaced (decimal limits.entries ++ space ++ decimal limits.bytes) (decimal limits.handles)
-    (spaced (decimal limits.entries) (decimal limits.bytes) (decimal_clean limits.entries (omega (arith, h.numbers.entries))) (decimal_clean limits.bytes (omega (arith, h.numbers.bytes))))
-    (decimal_clean limits.handles (omega (arith, h.numbers.handles))))
-command_clean (Limit limits) h = absurd h.within
-command_clean (Release number) h = behind (codes "release ") (script_handle_text number) refl (handle_clean number h.numbers)
-command_clean (Destroy numbers) h = behind (codes "destroy ") (list_text script_handle_text numbers) refl (list_clean Is64 script_handle_text handle_clean numbers h.numbers)
-command_clean (SliceRelease offset) h = behind (codes "slice ") (script_offset_text offset) refl (offset_clean offset h.numbers)
+command_clean (Reset limits) h = limits_clean (codes "reset ") limits refl h
+command_clean (Limit limits) h = limits_clean (codes "limit ") limits refl h
+command_clean (Release number) h = behind (codes "release ") (script_handle_text number) refl (handle_clean number h)
+command_clean (Destroy numbers) h = behind (codes "destroy ") (list_text script_handle_text numbers) refl (list_clean Is64 script_handle_text handle_clean numbers h)
+command_clean (SliceRelease offset) h = behind (codes "slice ") (script_offset_text offset) refl (offset_clean offset h)
 command_clean (Send send) h =
-    subst (λ (x : List ℕ). IsLine x) (sym (send_split send)) (joined (flag_words send.go_on) (load_text (load_of send)) (flag_clean send.go_on) (load_clean send h.numbers))
+    subst (λ (x : List ℕ). IsLine x) (sym (send_split send)) (joined (flag_words send.go_on) (load_text (load_of send)) (flag_clean send.go_on) (load_clean send h))
 command_clean Recv h = clean (codes "recv") refl
 command_clean Await h = clean (codes "await") refl
 
+cookie_clean : (k : Option ℕ) → IfSome k Is64 → IsLine (cookie_text k)
+cookie_clean None h = tt
+cookie_clean (Some n) h = joined (codes "#" ++ decimal n) space (behind (codes "#") (decimal n) refl (decimal_clean n h)) (clean space refl)
+
+name_clean : (version : Version) → IsLine (name_text version)
+name_clean One = behind (codes "bus1 script ") (decimal 1) refl (decimal_clean 1 (omega arith))
+name_clean Two = behind (codes "bus1 script ") (decimal 2) refl (decimal_clean 2 (omega arith))
+
 pub statement_clean : (s : Statement) → Fits s → IsLine (statement_text s)
-statement_clean says.Name h = clean (codes "bus1 script 1") refl
+statement_clean (says.Name version) h = name_clean version
 statement_clean (says.Clock clock) h = behind (codes "clock ") (decimal clock) refl (decimal_clean clock h)
 statement_clean (says.Peer p) h =
     let a = behind (codes "peer ") (decimal p.user) refl (decimal_clean p.user (omega (arith, h.user))) in
@@ -187,5 +201,5 @@ statement_clean (says.Wire w) h =
     let b = spaced (codes "wire " ++ decimal w.from) (script_handle_text w.number) a (handle_clean w.number h.number) in
     spaced (codes "wire " ++ decimal w.from ++ space ++ script_handle_text w.number) (decimal w.to) b (decimal_clean w.to (omega (arith, h.to)))
 statement_clean (says.Commands p) h = behind (codes "commands ") (decimal p) refl (decimal_clean p (omega (arith, h)))
-statement_clean (says.Command c) h = command_clean c h
+statement_clean (says.Command e) h = joined (cookie_text e.cookie) (command_text_in in_script e.command) (cookie_clean e.cookie h.cookie) (command_clean e.command h.numbers)
 statement_clean (says.Turns turns) h = behind (codes "turns ") (list_text decimal turns) refl (list_clean Is32 decimal (λ n k. decimal_clean n (omega (arith, k))) turns h.peers)

@@ -1,5 +1,6 @@
 -- Two scripts have two texts.
-use Rattle.std.proofs.Common.{◌≡◌, ◌≢◌, ℕ, ◌+◌, ◌-◌, ◌*◌, ◌/◌, ◌%◌, ◌^◌, ◌<◌, Bool, true, false, cond, eqb, List, [], ◌∷◌, ◌++◌, drop, ltb, ◌⊎◌, inl, inr, Some, codes, refl, sym, ap, subst, ◌∙◌, append_assoc, arith, eq-eqb}
+use Rattle.std.proofs.Common.{◌≡◌, ◌≢◌, ℕ, ◌+◌, ◌-◌, ◌*◌, ◌/◌, ◌%◌, ◌^◌, ◌<◌, Bool, true, false, cond, eqb, List, [], ◌∷◌, ◌++◌, drop, ltb, ◌⊎◌, inl, inr, Option, Some, None, codes, refl, sym, ap, subst, ◌∙◌, append_assoc, arith, eq-eqb}
+use Rattle.std.specs.Prelude.{IfSome}
 use Rattle.std.specs.Fmt.{decimal}
 use Rattle.std.specs.List.{flat_map, AllByRecursion}
 use Rattle.std.proofs.lemmas.Bool.{eqb-true}
@@ -8,25 +9,26 @@ use Rattle.std.proofs.lemmas.List.{append-nil}
 use Rattle.b1_model.specs.declared.commands.Command.{Command}
 use Rattle.b1_model.specs.declared.commands.Command.TheVariants.{Disconnect, Query, Reset, Limit, Release, Destroy, SliceRelease, Send, Recv, Await}
 use Rattle.b1_model.specs.declared.commands.SendCmd.{SendCmd}
-use Rattle.b1_records.specs.Spelling.{Is32, Is64, IsByte, AreLimits}
+use Rattle.b1_records.specs.Spelling.{Is32, Is64, IsByte, AreLimits, IsSend, HasNumbers}
 use Rattle.b1_script.specs.declared.script.Script.{Script}
 use Rattle.b1_script.specs.Spelling.{IsSpec}
 use Rattle.b1_text_words.specs.declared.items.Form.TheVariants.{Script as in_script}
-use Rattle.b1_text_words.specs.Commands.{command_text_in}
+use Rattle.b1_text_words.specs.Commands.{command_text_in, cookie_text}
 use Rattle.b1_text_words.specs.Numbers.{script_handle_text, script_offset_text, list_text, hex_digit, hex_text}
 use Rattle.b1_text_words.specs.Digits.{bytes_of}
 use Rattle.b1_text_words.specs.Words.{IsFree}
 use Rattle.b1_text_words.proofs.Languages.{joined_first, free_append, not_free}
 use Rattle.b1_text_words.proofs.Hex.{spelled_back}
 use Rattle.b1_text.specs.declared.draft.Draft.TheVariants.{Empty, Whole}
+use Rattle.b1_text.specs.declared.statement.Entry.{Entry}
 use Rattle.b1_text.specs.declared.statement.Statement.{Statement}
 use Rattle.b1_text.specs.declared.statement.Statement.TheVariants as says
-use Rattle.b1_text.specs.Texts.{statement_text, line_text, statements, script_text}
-use Rattle.b1_text.specs.Bodies.{two_text, AreTwo, limits_body, pool_body, IsPoolWithLimits, peer_body, end_body, IsEnd, wire_body}
+use Rattle.b1_text.specs.Texts.{entry_text, statement_text, line_text, statements, script_text}
+use Rattle.b1_text.specs.Bodies.{two_text, AreTwo, limits_body, pool_body, IsPoolWithLimits, peer_body, end_body, IsEnd, wire_body, cookie_word}
 use Rattle.b1_text.specs.Accepted.{IsWritable}
 use Rattle.b1_text.specs.Drafts.{HasWireFields, IsCarried, Fits, run}
-use Rattle.b1_text.proofs.Cuts.{Cut, two_cut, limits_cut, pool_cut, peer_cut, end_cut, wire_cut}
-use Rattle.b1_text.proofs.Firsts.{three_parts, peer_split, no_command, only_name, only_clock, only_peer, only_wire, only_commands, only_turns, turns_are, wire_split, starts, first}
+use Rattle.b1_text.proofs.Cuts.{Cut, two_cut, limits_cut, pool_cut, peer_cut, end_cut, wire_cut, cookie_free}
+use Rattle.b1_text.proofs.Firsts.{three_parts, peer_split, no_command, hash_or_letter, marked_text, version_text, same_digit, only_name, only_clock, only_peer, only_wire, only_commands, only_turns, turns_are, wire_split, starts, first}
 use Rattle.b1_text.proofs.Fitting.{statement_clean, statements_fit}
 use Rattle.b1_text.proofs.Follow.{split_same, not_empty}
 use Rattle.b1_text.proofs.Runs.{whole_run}
@@ -230,11 +232,11 @@ flag_tells false true x y e = let sixth : 48 ≡ 49 = ap (λ (z : List ℕ). fir
 send_of : Bool → List ℕ → List ℕ → List ℕ → SendCmd
 send_of go_on to with payload = record { go_on = go_on; to = to; with = with; payload = payload }
 
-send_tells : (s t : SendCmd) → IsCarried (Send s) → IsCarried (Send t) → command_text_in in_script (Send s) ≡ command_text_in in_script (Send t) → s ≡ t
+send_tells : (s t : SendCmd) → IsSend s → IsSend t → command_text_in in_script (Send s) ≡ command_text_in in_script (Send t) → s ≡ t
 unfolding send_of
 send_tells s t h k e =
-    let hn = h.numbers in
-    let kn = k.numbers in
+    let hn = h in
+    let kn = k in
     let a : List ℕ = list_text script_handle_text s.to in
     let b : List ℕ = list_text script_handle_text s.with in
     let c : List ℕ = hex_text s.payload in
@@ -292,31 +294,53 @@ code_is Await = refl
 differ : {m n : ℕ} → m ≡ n → eqb m n ≡ false → ⊥
 differ {m = m} {n = n} e apart = let yes = eq-eqb m n e in cc
 
-same_command : (c d : Command) → code c ≡ code d → IsCarried c → IsCarried d → command_text_in in_script c ≡ command_text_in in_script d → c ≡ d
+same_command : (c d : Command) → code c ≡ code d → HasNumbers c → HasNumbers d → command_text_in in_script c ≡ command_text_in in_script d → c ≡ d
 unfolding four code
 same_command Disconnect Disconnect same h k e = refl
 same_command Query Query same h k e = refl
 same_command (Reset l) (Reset m) same h k e =
     let body : limits_body l ≡ limits_body m = sym (three_parts (decimal l.entries) (decimal l.bytes) (decimal l.handles)) ∙ ap (λ (x : List ℕ). drop 6 x) e ∙ three_parts (decimal m.entries) (decimal m.bytes) (decimal m.handles) in
-    ap (λ x. Reset x) (limits_tell l m h.numbers k.numbers body)
-same_command (Limit l) (Limit m) same h k e = absurd h.within
-same_command (Release m) (Release n) same h k e = ap (λ x. Release x) (handle_tells m n h.numbers k.numbers (ap (λ (x : List ℕ). drop 8 x) e))
-same_command (Destroy ms) (Destroy ns) same h k e = ap (λ x. Destroy x) (handle_lists_tell ms ns h.numbers k.numbers (ap (λ (x : List ℕ). drop 8 x) e))
-same_command (SliceRelease m) (SliceRelease n) same h k e = ap (λ x. SliceRelease x) (offset_tells m n h.numbers k.numbers (ap (λ (x : List ℕ). drop 6 x) e))
+    ap (λ x. Reset x) (limits_tell l m h k body)
+same_command (Limit l) (Limit m) same h k e =
+    let body : limits_body l ≡ limits_body m = sym (three_parts (decimal l.entries) (decimal l.bytes) (decimal l.handles)) ∙ ap (λ (x : List ℕ). drop 6 x) e ∙ three_parts (decimal m.entries) (decimal m.bytes) (decimal m.handles) in
+    ap (λ x. Limit x) (limits_tell l m h k body)
+same_command (Release m) (Release n) same h k e = ap (λ x. Release x) (handle_tells m n h k (ap (λ (x : List ℕ). drop 8 x) e))
+same_command (Destroy ms) (Destroy ns) same h k e = ap (λ x. Destroy x) (handle_lists_tell ms ns h k (ap (λ (x : List ℕ). drop 8 x) e))
+same_command (SliceRelease m) (SliceRelease n) same h k e = ap (λ x. SliceRelease x) (offset_tells m n h k (ap (λ (x : List ℕ). drop 6 x) e))
 same_command (Send s) (Send t) same h k e = ap (λ x. Send x) (send_tells s t h k e)
 same_command Recv Recv same h k e = refl
 same_command Await Await same h k e = refl
 same_command c d same h k e = absurd (differ same refl)
 
-command_tells : Tells (command_text_in in_script) IsCarried
+command_tells : Tells (command_text_in in_script) HasNumbers
 command_tells c d h k e = same_command c d (sym (code_is c) ∙ ap four e ∙ code_is d) h k e
+
+-- ---- commands and their cookies
+
+cookie_tells : Tells cookie_word Is64
+cookie_tells a b h k e = decimal_tells a b h k (ap (λ (x : List ℕ). drop 1 x) e)
+
+entry_of : Option ℕ → Command → Entry
+entry_of k c = record { cookie = k; command = c }
+
+same_entry : (k l : Option ℕ) (c d : Command) → IfSome k Is64 → IfSome l Is64 → HasNumbers c → HasNumbers d → cookie_text k ++ command_text_in in_script c ≡ cookie_text l ++ command_text_in in_script d → entry_of k c ≡ entry_of l d
+same_entry None None c d f g h k e = ap (entry_of None) (command_tells c d h k e)
+same_entry None (Some n) c d f g h k e = absurd (hash_or_letter (n, d) c (sym (marked_text (n, d)) ∙ sym e))
+same_entry (Some m) None c d f g h k e = absurd (hash_or_letter (m, c) d (sym (marked_text (m, c)) ∙ e))
+same_entry (Some m) (Some n) c d f g h k e =
+    let split = joined_first 32 (cookie_word m) (cookie_word n) (command_text_in in_script c) (command_text_in in_script d) (cookie_free m f) (cookie_free n g) (sym (marked_text (m, c)) ∙ e ∙ marked_text (n, d)) in
+    ap (λ (x : ℕ). entry_of (Some x) c) (cookie_tells m n f g split.0) ∙ ap (entry_of (Some n)) (command_tells c d h k split.1)
+
+entry_tells : Tells entry_text IsCarried
+unfolding entry_of
+entry_tells e d h k same = same_entry e.cookie d.cookie e.command d.command h.cookie k.cookie h.numbers k.numbers same
 
 -- ---- statements
 
-command_of : (c : Command) (t : Statement) → IsCarried c → Fits t → command_text_in in_script c ≡ statement_text t → says.Command c ≡ t
+command_of : (c : Entry) (t : Statement) → IsCarried c → Fits t → entry_text c ≡ statement_text t → says.Command c ≡ t
 unfolding starts first
-command_of c (says.Command d) h k e = ap (λ x. says.Command x) (command_tells c d h k e)
-command_of c says.Name h k e = absurd (no_command (codes "bus1 script 1") c refl (sym e))
+command_of c (says.Command d) h k e = ap (λ x. says.Command x) (entry_tells c d h k e)
+command_of c (says.Name v) h k e = absurd (no_command (codes "bus1 script " ++ version_text v) c refl (sym e))
 command_of c (says.Clock n) h k e = absurd (no_command (codes "clock " ++ decimal n) c refl (sym e))
 command_of c (says.Peer p) h k e = absurd (no_command (codes "peer " ++ peer_body p) c refl (sym (e ∙ peer_split p)))
 command_of c (says.Wire w) h k e = absurd (no_command (codes "wire " ++ wire_body w) c refl (sym (e ∙ wire_split w)))
@@ -324,7 +348,7 @@ command_of c (says.Commands n) h k e = absurd (no_command (codes "commands " ++ 
 command_of c (says.Turns ts) h k e = absurd (no_command (codes "turns " ++ list_text decimal ts) c refl (sym e))
 
 pub statement_tells : Tells statement_text Fits
-statement_tells says.Name t h k e = sym (only_name t e)
+statement_tells (says.Name v) t h k e = let o = only_name t (version_text v) k e in ap (λ x. says.Name x) (same_digit v o.0 o.3) ∙ sym o.1
 statement_tells (says.Clock n) t h k e = let o = only_clock t (decimal n) k e in ap (λ x. says.Clock x) (decimal_tells n o.0 h o.2 o.3) ∙ sym o.1
 statement_tells (says.Peer p) t h k e = let o = only_peer t (peer_body p) k (sym (peer_split p) ∙ e) in ap (λ x. says.Peer x) (peer_tells p o.0 h o.2 o.3) ∙ sym o.1
 statement_tells (says.Wire w) t h k e = let o = only_wire t (wire_body w) k (sym (wire_split w) ∙ e) in ap (λ x. says.Wire x) (wire_tells w o.0 h o.2 o.3) ∙ sym o.1

@@ -4,11 +4,13 @@ use Rattle.std.specs.Prelude.{IsSomeAnd}
 use Rattle.std.specs.Option.{option_map_or}
 use Rattle.std.specs.List.{list_all, AllByRecursion}
 use Rattle.std.proofs.lemmas.Bool.{leb-true, le-leb, eqb-true, eqb-false, ne_eqb, not-true, not_from_false, ltb-true, lt-ltb}
-use Rattle.b1_model.specs.declared.limits.TheConstants.{CLOCK_LIMIT, MOST_POOL, MOST_SCRIPT}
+use Rattle.b1_model.specs.declared.limits.TheConstants.{CLOCK_LIMIT, MOST_POOL}
 use Rattle.b1_model.specs.declared.naming.Wire.{Wire}
 use Rattle.b1_model.specs.Opening.{from_owner, CanWire, IsPool}
+use Rattle.b1_model.specs.declared.naming.PeerSpec.{PeerSpec}
 use Rattle.b1_script.specs.Reading.{is_first_clock, is_pool, gives_foreign}
-use Rattle.b1_text.specs.Drafts.{can_wire, has_room}
+use Rattle.b1_script.specs.Spelling.{most_len}
+use Rattle.b1_text.specs.Drafts.{can_wire, can_pool, has_room, pools_left}
 
 pub both : (a b : Bool) → a ≡ true → b ≡ true → (a && b) ≡ true
 both a b p q = rw (p, q) refl
@@ -38,11 +40,17 @@ pool_is n h =
     let c = both_of (eqb (n % 8) 0) (leb 8 n) b.0 in
     record { eighths = eqb-true (n % 8) 0 c.0; least = leb-true 8 n c.1; most = leb-true n MOST_POOL b.1 }
 
-pub room_test : (len more : ℕ) → len + more ≤ MOST_SCRIPT → has_room len more ≡ true
-room_test len more h = le-leb (len + more) MOST_SCRIPT h
+pub pool_left_test : (peers : List PeerSpec) (n : ℕ) → IsPool n → n ≤ pools_left peers → can_pool peers n ≡ true
+pool_left_test peers n p left = both (is_pool n) (leb n (pools_left peers)) (pool_test n p) (le-leb n (pools_left peers) left)
 
-pub room_is : (len more : ℕ) → has_room len more ≡ true → len + more ≤ MOST_SCRIPT
-room_is len more h = leb-true (len + more) MOST_SCRIPT h
+pub pool_left_is : (peers : List PeerSpec) (n : ℕ) → can_pool peers n ≡ true → IsPool n × (n ≤ pools_left peers)
+pool_left_is peers n h = let b = both_of (is_pool n) (leb n (pools_left peers)) h in (pool_is n b.0, leb-true n (pools_left peers) b.1)
+
+pub room_test : (peers len more : ℕ) → len + more ≤ most_len peers → has_room peers len more ≡ true
+room_test peers len more h = le-leb (len + more) (most_len peers) h
+
+pub room_is : (peers len more : ℕ) → has_room peers len more ≡ true → len + more ≤ most_len peers
+room_is peers len more h = leb-true (len + more) (most_len peers) h
 
 foreign_is : (given : Option Wire) (to : ℕ) → option_map_or (λ g. not (eqb g.from to)) given false ≡ true → IsSomeAnd given (λ g. g.from ≢ to)
 foreign_is None to h = absurd cc

@@ -1,5 +1,7 @@
 pub mod Texts
 pub mod Sends
+pub mod Records
+pub mod Entries
 pub mod Lengths
 pub mod Judging
 pub mod Runs

@@ -1,5 +1,6 @@
 -- An accepted text is shorter than the most that is read.
-use Rattle.std.proofs.Common.{◌≡◌, ℕ, ◌+◌, ◌-◌, ◌*◌, ◌/◌, ◌%◌, ◌<◌, ◌≤◌, Bool, true, false, cond, eqb, List, [], ◌∷◌, ◌++◌, length, map, codes, refl, ap, arith}
+use Rattle.std.proofs.Common.{◌≡◌, ℕ, ◌+◌, ◌*◌, ◌/◌, ◌%◌, ◌<◌, ◌≤◌, Bool, true, false, cond, eqb, List, [], ◌∷◌, ◌++◌, length, map, Option, Some, None, codes, refl, ap, arith}
+use Rattle.std.specs.Prelude.{IfSome}
 use Rattle.std.specs.Fmt.{decimal}
 use Rattle.std.specs.List.{flat_map, enumerate_from, AllByRecursion}
 use Rattle.std.proofs.lemmas.Fmt.{length-decimal-le}
@@ -12,19 +13,26 @@ use Rattle.b1_model.specs.declared.commands.SendCmd.{SendCmd}
 use Rattle.b1_model.specs.declared.naming.Limits.{Limits}
 use Rattle.b1_model.specs.declared.naming.PeerSpec.{PeerSpec}
 use Rattle.b1_model.specs.declared.naming.Wire.{Wire}
-use Rattle.b1_records.specs.Spelling.{Is32, Is64, AreLimits}
+use Rattle.b1_model.specs.declared.version.Version.{Version}
+use Rattle.b1_model.specs.declared.version.Version.TheVariants.{One, Two}
+use Rattle.b1_records.specs.Spelling.{Is32, Is64, AreLimits, HasNumbers}
 use Rattle.b1_script.specs.declared.script.Script.{Script}
 use Rattle.b1_script.specs.Spelling.{IsSpec}
+use Rattle.b1_script.proofs.Laws.{most_under}
 use Rattle.b1_text_words.specs.declared.items.Form.TheVariants.{Script as in_script}
-use Rattle.b1_text_words.specs.Commands.{command_text_in, limits_text, flag_of}
+use Rattle.b1_text_words.specs.Commands.{command_text_in, cookie_text, limits_text, flag_of}
 use Rattle.b1_text_words.specs.Numbers.{script_handle_text, script_offset_text, slot_text, list_text, hex_pair, hex_text}
+use Rattle.b1_text.specs.declared.statement.Entry.{Entry}
 use Rattle.b1_text.specs.declared.statement.Statement.{Statement}
 use Rattle.b1_text.specs.declared.statement.Statement.TheVariants as says
-use Rattle.b1_text.specs.Texts.{peer_text, wire_text, line_text, list_statements, lists_statements, opening_statements, statements}
+use Rattle.b1_text.specs.Texts.{name_text, entry_text, peer_text, wire_text, line_text, entries_said, list_statements, lists_statements, opening_statements, statements}
 use Rattle.b1_text.specs.Accepted.{IsText}
 use Rattle.b1_text.specs.Drafts.{HasWireFields, IsCarried, Fits, record_len}
+use Rattle.b1_text.specs.Nexts.{plain_len}
+use Rattle.b1_text.proofs.Entries.{said_count}
 use Rattle.b1_text.proofs.Fitting.{statements_fit}
-use Rattle.b1_text.proofs.Lengths.{records_sum, lists_sum, length_parts, destroy_len, send_len}
+use Rattle.b1_text.proofs.Lengths.{records_sum, lists_sum, length_parts}
+use Rattle.b1_text.proofs.Records.{cookie_len, record_is, destroy_len, send_len}
 
 -- ---- words
 
@@ -112,7 +120,7 @@ limits_len l h =
     let d = length-append (decimal l.entries) (codes " ") in
     omega (arith, a, b, c, d, small_len l.entries h.entries, small_len l.bytes h.bytes, small_len l.handles h.handles)
 
-send_text_len : (s : SendCmd) → IsCarried (Send s) → length (command_text_in in_script (Send s)) + 1 ≤ 4 * record_len (Send s)
+send_text_len : (s : SendCmd) → HasNumbers (Send s) → length (command_text_in in_script (Send s)) + 1 ≤ 4 * plain_len (Send s)
 send_text_len s h =
     let flag : List ℕ = codes "send " ++ flag_of s.go_on in
     let to : List ℕ = list_text script_handle_text s.to in
@@ -123,30 +131,41 @@ send_text_len s h =
     let d = length-append (flag ++ to) (codes " with ") in
     let e = length-append flag to in
     let f = length-append (codes "send ") (flag_of s.go_on) in
-    omega (arith, a, b, c, d, e, f, flag_len s.go_on, list_len s.to h.numbers.to, list_len s.with h.numbers.with, hex_len s.payload, send_len s)
+    omega (arith, a, b, c, d, e, f, flag_len s.go_on, list_len s.to h.to, list_len s.with h.with, hex_len s.payload, send_len s)
 
-command_len : (c : Command) → IsCarried c → length (command_text_in in_script c) + 1 ≤ 4 * record_len c
+command_len : (c : Command) → HasNumbers c → length (command_text_in in_script c) + 1 ≤ 4 * plain_len c
 command_len Disconnect h = omega arith
 command_len Query h = omega arith
-command_len (Reset limits) h = omega (arith, limits_len limits h.numbers, length-append (codes "reset ") (limits_text limits))
-command_len (Limit limits) h = absurd h.within
-command_len (Release n) h = omega (arith, handle_len n h.numbers, length-append (codes "release ") (script_handle_text n))
-command_len (Destroy ns) h = omega (arith, list_len ns h.numbers, destroy_len ns, length-append (codes "destroy ") (list_text script_handle_text ns))
-command_len (SliceRelease n) h = omega (arith, offset_len n h.numbers, length-append (codes "slice ") (script_offset_text n))
+command_len (Reset limits) h = omega (arith, limits_len limits h, length-append (codes "reset ") (limits_text limits))
+command_len (Limit limits) h = omega (arith, limits_len limits h, length-append (codes "limit ") (limits_text limits))
+command_len (Release n) h = omega (arith, handle_len n h, length-append (codes "release ") (script_handle_text n))
+command_len (Destroy ns) h = omega (arith, list_len ns h, destroy_len ns, length-append (codes "destroy ") (list_text script_handle_text ns))
+command_len (SliceRelease n) h = omega (arith, offset_len n h, length-append (codes "slice ") (script_offset_text n))
 command_len (Send s) h = send_text_len s h
 command_len Recv h = omega arith
 command_len Await h = omega arith
+
+cookie_text_len : (k : Option ℕ) → IfSome k Is64 → length (cookie_text k) ≤ 4 * cookie_len k
+cookie_text_len None h = omega arith
+cookie_text_len (Some n) h = omega (arith, long_len n h, length-append (codes "#" ++ decimal n) (codes " "), length-append (codes "#") (decimal n))
+
+entry_len : (e : Entry) → IsCarried e → length (entry_text e) + 1 ≤ 4 * record_len e
+entry_len e h = omega (arith, length-append (cookie_text e.cookie) (command_text_in in_script e.command), cookie_text_len e.cookie h.cookie, command_len e.command h.numbers, record_is e h)
+
+name_len : (version : Version) → length (name_text version) ≤ 13
+name_len One = omega (arith, length-append (codes "bus1 script ") (decimal 1), length-decimal-le 1 1 (omega arith) (omega arith) (omega arith))
+name_len Two = omega (arith, length-append (codes "bus1 script ") (decimal 2), length-decimal-le 1 2 (omega arith) (omega arith) (omega arith))
 
 -- ---- lines
 
 -- a quarter of the most bytes of a line
 weight : Statement → ℕ
-weight says.Name = 4
+weight (says.Name version) = 4
 weight (says.Clock clock) = 7
 weight (says.Peer p) = 24
 weight (says.Wire w) = 16
 weight (says.Commands p) = 8
-weight (says.Command c) = record_len c
+weight (says.Command e) = record_len e
 weight (says.Turns turns) = 4 * length turns + 2
 
 peer_len : (p : PeerSpec) → IsSpec p → length (peer_text p) ≤ 59
@@ -179,12 +198,12 @@ wire_len w h =
 
 line_len : (s : Statement) → Fits s → length (line_text s) ≤ 4 * weight s
 unfolding weight
-line_len says.Name h = omega arith
+line_len (says.Name version) h = omega (arith, name_len version, length-append (name_text version) (codes "\n"))
 line_len (says.Clock clock) h = omega (arith, long_len clock h, length-append (codes "clock " ++ decimal clock) (codes "\n"), length-append (codes "clock ") (decimal clock))
 line_len (says.Peer p) h = omega (arith, peer_len p h, length-append (peer_text p) (codes "\n"))
 line_len (says.Wire w) h = omega (arith, wire_len w h, length-append (wire_text w) (codes "\n"))
 line_len (says.Commands p) h = omega (arith, small_len p h, length-append (codes "commands " ++ decimal p) (codes "\n"), length-append (codes "commands ") (decimal p))
-line_len (says.Command c) h = omega (arith, command_len c h, length-append (command_text_in in_script c) (codes "\n"))
+line_len (says.Command e) h = omega (arith, entry_len e h, length-append (entry_text e) (codes "\n"))
 line_len (says.Turns ts) h = omega (arith, turn_list_len ts h.peers, length-append (codes "turns " ++ list_text decimal ts) (codes "\n"), length-append (codes "turns ") (list_text decimal ts))
 
 weights : List Statement → ℕ
@@ -217,12 +236,12 @@ unfolding weights weight
 wires_weigh [] = refl
 wires_weigh (w ∷ ws) = let ih = wires_weigh ws in omega (arith, ih)
 
-commands_weigh : (cs : List Command) → weights (map says.Command cs) ≡ records_sum cs
+commands_weigh : (cs : List Entry) → weights (map says.Command cs) ≡ records_sum cs
 unfolding weights weight
 commands_weigh [] = refl
 commands_weigh (c ∷ cs) = let ih = commands_weigh cs in omega (arith, ih)
 
-lists_weigh : (n : ℕ) (ls : List (List Command)) → weights (flat_map list_statements (enumerate_from n ls)) ≡ 8 * length ls + lists_sum ls
+lists_weigh : (n : ℕ) (ls : List (List Entry)) → weights (flat_map list_statements (enumerate_from n ls)) ≡ 8 * length ls + lists_sum ls
 unfolding weights weight
 lists_weigh n [] = refl
 lists_weigh n (cs ∷ ls) =
@@ -234,13 +253,17 @@ lists_weigh n (cs ∷ ls) =
 pub text_short : (bytes : List ℕ) (s : Script) → IsText bytes s → length bytes < MOST_TEXT
 unfolding weights weight
 text_short bytes s t =
+    let has = t.writable.has_spelling in
+    let said : List (List Entry) = entries_said s.cookies s.commands in
     let peers : List Statement = map says.Peer s.opening.peers in
     let wires : List Statement = map says.Wire s.opening.wires in
     let opening : List Statement = opening_statements s in
-    let lists : List Statement = lists_statements s.commands in
+    let lists : List Statement = lists_statements said in
     let a = weights-append (opening ++ lists) (says.Turns s.turns ∷ []) in
     let b = weights-append opening lists in
     let c = weights-append peers wires in
     let same = ap (λ (x : List ℕ). length x) t.spelled in
     let long = lines_len (statements s) (statements_fit s t.writable) in
-    omega (arith, same, long, a, b, c, peers_weigh s.opening.peers, wires_weigh s.opening.wires, lists_weigh 0 s.commands, length_parts s, t.writable.has_spelling.short)
+    let count = said_count s.cookies s.commands has.cookies in
+    let under = most_under (length s.opening.peers) in
+    omega (arith, same, long, a, b, c, peers_weigh s.opening.peers, wires_weigh s.opening.wires, lists_weigh 0 said, length_parts s has.cookies, count, has.short, under)

@@ -1,6 +1,7 @@
 -- The lines of peers and of limits, word by word.
-use Rattle.std.proofs.Common.{◌≡◌, ◌↔◌, ℕ, ◌^◌, ◌<◌, ◌≤◌, Bool, List, [], ◌∷◌, ◌++◌, codes, IsTrue, refl, sym, ap, ◌∙◌, arith}
+use Rattle.std.proofs.Common.{◌≡◌, ◌↔◌, ℕ, ◌^◌, ◌<◌, ◌≤◌, Bool, false, List, [], ◌∷◌, ◌++◌, codes, IsTrue, refl, sym, ap, ◌∙◌, append_assoc, arith}
 use Rattle.std.specs.Fmt.{decimal}
+use Rattle.b1_model.specs.declared.naming.Limits.{Limits}
 use Rattle.b1_model.specs.declared.naming.PeerSpec.{PeerSpec}
 use Rattle.b1_model.specs.Opening.{IsPool}
 use Rattle.b1_records.specs.Spelling.{AreLimits}
@@ -9,6 +10,7 @@ use Rattle.b1_text_words.specs.Words.{Spells, Begins, Joined}
 use Rattle.b1_text.specs.Texts.{peer_text}
 use Rattle.b1_text.specs.Bodies.{peer_body}
 use Rattle.b1_text.specs.Nexts.{HasSpec}
+use Rattle.b1_text.proofs.Begins.{never}
 use Rattle.b1_text.proofs.Firsts.{three_parts, peer_split}
 
 -- the same lines, told in two ways
@@ -31,35 +33,39 @@ joined w a b e r s f = ap (λ (x : List ℕ). x ++ 32 ∷ r) e ∙ ap (λ (x : L
 
 -- ---- limits
 
-abbrev pub LimitsLine : List ℕ → Type 0
-LimitsLine = Then (Word (codes "reset")) (Then Number (Then Number Number))
+abbrev pub LimitsLine : List ℕ → List ℕ → Type 0
+LimitsLine word = Then (Word word) (Then Number (Then Number Number))
+
+abbrev limits_behind : List ℕ → Limits → List ℕ
+limits_behind word l = word ++ codes " " ++ limits_text l
 
 limits_is : (e b h : ℕ) → decimal e ++ 32 ∷ (decimal b ++ 32 ∷ decimal h) ≡ limits_text (record { entries = e; bytes = b; handles = h })
 limits_is e b h = sym (three_parts (decimal e) (decimal b) (decimal h))
 
-limits_in : (w : List ℕ) → LimitsLine w → Spells (λ l. codes "reset " ++ limits_text l) AreLimits w
-limits_in w j =
+limits_in : (word w : List ℕ) → LimitsLine word w → Spells (limits_behind word) AreLimits w
+limits_in word w j =
     let two = j.is_rest in
     let three = two.is_rest in
     let e = two.is_first in
     let b = three.is_first in
     let h = three.is_rest in
+    let l : Limits = record { entries = e.value; bytes = b.value; handles = h.value } in
     let tail : two.rest ≡ decimal b.value ++ 32 ∷ decimal h.value = three.whole ∙ joined three.first (decimal b.value) [] b.same three.rest (decimal h.value) h.same in
     let body : j.rest ≡ decimal e.value ++ 32 ∷ (decimal b.value ++ 32 ∷ decimal h.value) = two.whole ∙ joined two.first (decimal e.value) [] e.same two.rest (decimal b.value ++ 32 ∷ decimal h.value) tail in
     record {
-      value = record { entries = e.value; bytes = b.value; handles = h.value };
+      value = l;
       is_of = record { entries = omega (arith, e.is_of); bytes = omega (arith, b.is_of); handles = omega (arith, h.is_of) };
-      same = j.whole ∙ joined j.first (codes "reset") [] j.is_first j.rest (limits_text (record { entries = e.value; bytes = b.value; handles = h.value })) (body ∙ limits_is e.value b.value h.value);
+      same = j.whole ∙ joined j.first word [] j.is_first j.rest (limits_text l) (body ∙ limits_is e.value b.value h.value) ∙ sym (append_assoc word (codes " ") (limits_text l));
     }
 
 number : (n : ℕ) → n < 2 ^ 32 → Number (decimal n)
 number n fits = record { value = n; is_of = omega (arith, fits); same = refl }
 
-limits_out : (w : List ℕ) → Spells (λ l. codes "reset " ++ limits_text l) AreLimits w → LimitsLine w
-limits_out w s =
+limits_out : (word w : List ℕ) → Spells (limits_behind word) AreLimits w → LimitsLine word w
+limits_out word w s =
     let l = s.value in
     record {
-      first = codes "reset";
+      first = word;
       rest = decimal l.entries ++ 32 ∷ (decimal l.bytes ++ 32 ∷ decimal l.handles);
       is_first = refl;
       is_rest = record {
@@ -75,19 +81,19 @@ limits_out w s =
         };
         whole = refl;
       };
-      whole = s.same ∙ ap (λ (x : List ℕ). codes "reset " ++ x) (sym (limits_is l.entries l.bytes l.handles));
+      whole = s.same ∙ append_assoc word (codes " ") (limits_text l) ∙ ap (λ (x : List ℕ). word ++ 32 ∷ x) (sym (limits_is l.entries l.bytes l.handles));
     }
 
-pub limits_line : (line : List ℕ) (r : Bool) → IsTrue r ↔ Begins LimitsLine line → IsTrue r ↔ Begins (Spells (λ l. codes "reset " ++ limits_text l) AreLimits) line
-limits_line line r h = same_lines LimitsLine (Spells (λ l. codes "reset " ++ limits_text l) AreLimits) line r limits_in limits_out h
+pub limits_line : (word line : List ℕ) (r : Bool) → IsTrue r ↔ Begins (LimitsLine word) line → IsTrue r ↔ Begins (Spells (λ l. word ++ codes " " ++ limits_text l) AreLimits) line
+limits_line word line r h = same_lines (LimitsLine word) (Spells (limits_behind word) AreLimits) line r (limits_in word) (limits_out word) h
 
 -- ---- peers
 
 abbrev pub PeerLine : (ℕ → Type 0) → List ℕ → Type 0
 PeerLine Pool = Then (Word (codes "peer")) (Then Number (Then (Spells decimal Pool) (Then Number (Then Number Number))))
 
-peer_in : (Pool : ℕ → Type 0) → ((n : ℕ) → Pool n → IsPool n) → (w : List ℕ) → PeerLine Pool w → Spells peer_text HasSpec w
-peer_in Pool f w j =
+peer_in : (room : ℕ) (Pool : ℕ → Type 0) → ((n : ℕ) → Pool n → IsPool n × (n ≤ room)) → (w : List ℕ) → PeerLine Pool w → Spells peer_text (HasSpec room) w
+peer_in room Pool f w j =
     let two = j.is_rest in
     let three = two.is_rest in
     let four = three.is_rest in
@@ -109,16 +115,17 @@ peer_in Pool f w j =
       is_of = record {
         spec = record {
           user = omega (arith, u.is_of);
-          pool = omega (arith, pool.most);
+          pool = omega (arith, pool.0.most);
           limits = record { entries = omega (arith, e.is_of); bytes = omega (arith, b.is_of); handles = omega (arith, h.is_of) };
         };
-        pool = pool;
+        pool = pool.0;
+        fits = pool.1;
       };
       same = j.whole ∙ joined j.first (codes "peer") [] j.is_first j.rest (peer_body spec) l2 ∙ sym (peer_split spec);
     }
 
-peer_out : (Pool : ℕ → Type 0) → ((n : ℕ) → IsPool n → Pool n) → (w : List ℕ) → Spells peer_text HasSpec w → PeerLine Pool w
-peer_out Pool f w s =
+peer_out : (room : ℕ) (Pool : ℕ → Type 0) → ((n : ℕ) → IsPool n → n ≤ room → Pool n) → (w : List ℕ) → Spells peer_text (HasSpec room) w → PeerLine Pool w
+peer_out room Pool f w s =
     let p = s.value in
     let is = s.is_of.spec in
     record {
@@ -132,7 +139,7 @@ peer_out Pool f w s =
         is_rest = record {
           first = decimal p.pool;
           rest = decimal p.limits.entries ++ 32 ∷ (decimal p.limits.bytes ++ 32 ∷ decimal p.limits.handles);
-          is_first = record { value = p.pool; is_of = f p.pool s.is_of.pool; same = refl };
+          is_first = record { value = p.pool; is_of = f p.pool s.is_of.pool s.is_of.fits; same = refl };
           is_rest = record {
             first = decimal p.limits.entries;
             rest = decimal p.limits.bytes ++ 32 ∷ decimal p.limits.handles;
@@ -153,5 +160,9 @@ peer_out Pool f w s =
       whole = s.same ∙ peer_split p;
     }
 
-pub spec_line : {Pool : ℕ → Type 0} (line : List ℕ) (r : Bool) → IsTrue r ↔ Begins (PeerLine Pool) line → ((n : ℕ) → Pool n → IsPool n) → ((n : ℕ) → IsPool n → Pool n) → IsTrue r ↔ Begins (Spells peer_text HasSpec) line
-spec_line {Pool = Pool} line r h f g = same_lines (PeerLine Pool) (Spells peer_text HasSpec) line r (peer_in Pool f) (peer_out Pool g) h
+pub spec_line : {Pool : ℕ → Type 0} (room : ℕ) (line : List ℕ) (r : Bool) → IsTrue r ↔ Begins (PeerLine Pool) line → ((n : ℕ) → Pool n → IsPool n × (n ≤ room)) → ((n : ℕ) → IsPool n → n ≤ room → Pool n) → IsTrue r ↔ Begins (Spells peer_text (HasSpec room)) line
+spec_line {Pool = Pool} room line r h f g = same_lines (PeerLine Pool) (Spells peer_text (HasSpec room)) line r (peer_in room Pool f) (peer_out room Pool g) h
+
+-- where no pool has room
+pub no_spec : (room : ℕ) (line : List ℕ) → room < 8 → IsTrue false ↔ Begins (Spells peer_text (HasSpec room)) line
+no_spec room line small = never peer_text (HasSpec room) line (λ b. omega (arith, b.whole.is_of.pool.least, b.whole.is_of.fits, small))

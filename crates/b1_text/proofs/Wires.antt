@@ -7,6 +7,7 @@ use Rattle.std.proofs.lemmas.Bool.{eqb-true, eqb-false, ne_eqb, cases_lt, le-ltb
 use Rattle.std.proofs.lemmas.List.Filters.{length-filter_both}
 use Rattle.std.proofs.lemmas.Option.{slice_get_within}
 use Rattle.std.proofs.lemmas.Fmt.{decimal_step}
+use Rattle.b1_model.specs.declared.limits.TheConstants.{MOST_PEERS}
 use Rattle.b1_model.specs.declared.naming.Wire.{Wire}
 use Rattle.b1_model.specs.Opening.{held_by, from_owner, CanWire}
 use Rattle.b1_records.specs.Spelling.{Is32, Is64}
@@ -58,7 +59,7 @@ own_end n held from number some within is =
     record { fits = record { number = is.fits; to = other_fits (eqb from 0) }; goes_on = wire_test n held (wire_of from (number, other from)) (own_can n held from number some within is.own) }
 
 -- a wire can be made from each of two peers or more
-pub some_wire : (n : ℕ) (held : List Wire) (from : ℕ) → n ≤ 64 → 2 ≤ n → from < n → NextWire n held (wire_of from (0, other from))
+pub some_wire : (n : ℕ) (held : List Wire) (from : ℕ) → n ≤ MOST_PEERS → 2 ≤ n → from < n → NextWire n held (wire_of from (0, other from))
 unfolding other
 some_wire n held from most some within =
     record { fits = record { from = omega (arith, most, within); to = other_fits (eqb from 0); number = omega arith }; goes_on = wire_test n held (wire_of from (0, other from)) (own_can n held from 0 some within refl) }
@@ -73,7 +74,7 @@ end_halves n held from = record { first = λ x. x.0; rest = λ x. x.1; text = λ
 
 -- ---- from whom
 
-pub from_alone : (n : ℕ) (held : List Wire) (line : List ℕ) (r : Bool) → n ≤ 64 → 2 ≤ n → IsFree 32 line → IsTrue r ↔ Begins (Spells decimal (λ a. a ≤ n - 1)) line → IsTrue r ↔ Begins (Spells wire_body (NextWire n held)) line
+pub from_alone : (n : ℕ) (held : List Wire) (line : List ℕ) (r : Bool) → n ≤ MOST_PEERS → 2 ≤ n → IsFree 32 line → IsTrue r ↔ Begins (Spells decimal (λ a. a ≤ n - 1)) line → IsTrue r ↔ Begins (Spells wire_body (NextWire n held)) line
 from_alone n held line r most some plain h =
     halves_none (wire_halves n held) (λ a. a ≤ n - 1) line r
     (λ w is. let can = wire_is n held w is.goes_on in omega (arith, can.from))
@@ -82,7 +83,7 @@ from_alone n held line r most some plain h =
 same_number : (word : List ℕ) (r : Option ℕ) (x y : ℕ) → Reads decimal Is32 word r → r ≡ Some x → Is32 y → word ≡ decimal y → y ≡ x
 same_number word r x y reads is fits same = let both : Some x ≡ Some y = sym is ∙ reads.whole y fits same in (cc)
 
-pub from_known : (n : ℕ) (held : List Wire) (line w rest : List ℕ) (x : Option ℕ) (from : ℕ) (r : Bool) → n ≤ 64 → from < n → line ≡ w ++ 32 ∷ rest → IsFree 32 w → Reads decimal Is32 w x → x ≡ Some from
+pub from_known : (n : ℕ) (held : List Wire) (line w rest : List ℕ) (x : Option ℕ) (from : ℕ) (r : Bool) → n ≤ MOST_PEERS → from < n → line ≡ w ++ 32 ∷ rest → IsFree 32 w → Reads decimal Is32 w x → x ≡ Some from
     → IsTrue r ↔ Begins (Spells end_body (NextEnd n held from)) rest → IsTrue r ↔ Begins (Spells wire_body (NextWire n held)) line
 from_known n held line w rest x from r most within split plain reads is h =
     let found = subst (λ o. Reads decimal Is32 w o) is reads in
@@ -221,7 +222,7 @@ pub line_some : (n : ℕ) (held : List Wire) (line rest : List ℕ) (r : Bool) �
 line_some n held line rest r split h =
     same_text (λ w. codes "wire " ++ wire_body w) wire_text (NextWire n held) line r (λ w. sym (wire_split w)) (word_some (codes "wire ") wire_body (NextWire n held) line rest r split h)
 
-pub line_none : (n : ℕ) (held : List Wire) (line : List ℕ) (r : Bool) → n ≤ 64 → 2 ≤ n → ((rest : List ℕ) → line ≢ codes "wire " ++ rest) → IsTrue r ↔ Begins (λ w. w ≡ codes "wire ") line → IsTrue r ↔ Begins (Spells wire_text (NextWire n held)) line
+pub line_none : (n : ℕ) (held : List Wire) (line : List ℕ) (r : Bool) → n ≤ MOST_PEERS → 2 ≤ n → ((rest : List ℕ) → line ≢ codes "wire " ++ rest) → IsTrue r ↔ Begins (λ w. w ≡ codes "wire ") line → IsTrue r ↔ Begins (Spells wire_text (NextWire n held)) line
 line_none n held line r most some apart h =
     same_text (λ w. codes "wire " ++ wire_body w) wire_text (NextWire n held) line r (λ w. sym (wire_split w))
     (word_none (codes "wire ") wire_body (NextWire n held) line r (wire_of 0 (0, other 0)) (some_wire n held 0 most some (omega (arith, some))) apart h)

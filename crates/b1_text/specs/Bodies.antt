@@ -1,10 +1,14 @@
 -- What stands behind the first word of a line, cut at its spaces.
-use Rattle.std.specs.Prelude.{ℕ, List, ◌∷◌, ◌++◌}
+use Rattle.std.specs.Prelude.{ℕ, List, ◌∷◌, ◌++◌, codes}
 use Rattle.std.specs.Fmt.{decimal}
+use Rattle.b1_model.specs.declared.commands.Command.{Command}
 use Rattle.b1_model.specs.declared.naming.Limits.{Limits}
 use Rattle.b1_model.specs.declared.naming.PeerSpec.{PeerSpec}
 use Rattle.b1_model.specs.declared.naming.Wire.{Wire}
+use Rattle.b1_model.specs.declared.version.Version.TheVariants.{Two}
 use Rattle.b1_records.specs.Spelling.{Is32, Is64, AreLimits}
+use Rattle.b1_text_words.specs.declared.items.Form.TheVariants.{Script as in_script}
+use Rattle.b1_text_words.specs.Commands.{command_text_in, IsCommand}
 use Rattle.b1_text_words.specs.Numbers.{script_handle_text}
 
 abbrev pub space : ℕ
@@ -45,3 +49,15 @@ pub record IsEnd (x : ℕ × ℕ) : Type 0 where
 -- a wire
 abbrev pub wire_body : Wire → List ℕ
 wire_body w = decimal w.from ++ space ∷ end_body (w.number, w.to)
+
+-- a cookie's word
+abbrev pub cookie_word : ℕ → List ℕ
+cookie_word n = codes "#" ++ decimal n
+
+-- a cookie and its command
+abbrev pub marked_body : ℕ × Command → List ℕ
+marked_body x = cookie_word x.0 ++ space ∷ command_text_in in_script x.1
+
+pub record IsMarked (x : ℕ × Command) : Type 0 where
+  pub cookie : Is64 x.0
+  pub command : IsCommand in_script Two x.1

@@ -1,5 +1,5 @@
 -- The lines with which a script can go on, kind by kind.
-use Rattle.std.specs.Prelude.{◌≡◌, ℕ, ◌-◌, ◌*◌, ◌%◌, ◌<◌, ◌≤◌, Bool, true, false, List, ◌∷◌, ◌++◌, length, codes, Some}
+use Rattle.std.specs.Prelude.{◌≡◌, ℕ, ◌+◌, ◌-◌, ◌*◌, ◌%◌, ◌<◌, ◌≤◌, Bool, true, false, List, ◌∷◌, ◌++◌, length, codes, Some}
 use Rattle.std.specs.List.{AllByRecursion}
 use Rattle.b1_model.specs.declared.commands.Command.{Command}
 use Rattle.b1_model.specs.declared.commands.Command.TheVariants.{Disconnect, Query, Reset, Release, Destroy, SliceRelease, Send, Recv, Await}
@@ -7,14 +7,14 @@ use Rattle.b1_model.specs.declared.limits.TheConstants.{WIRE_LIMIT}
 use Rattle.b1_model.specs.declared.naming.PeerSpec.{PeerSpec}
 use Rattle.b1_model.specs.declared.naming.Wire.{Wire}
 use Rattle.b1_model.specs.Opening.{HasPool}
-use Rattle.b1_records.specs.Spelling.{Is64, IsByte, rounded, most_numbers, most_bytes}
+use Rattle.b1_records.specs.Spelling.{Is64, IsByte, IsWithin, IsWithin2, HasNumbers, rounded, most_numbers, most_bytes, body_spelling}
 use Rattle.b1_script.specs.Spelling.{IsSpec}
 use Rattle.b1_text_words.specs.Numbers.{script_handle_text, list_text, hex_text}
 use Rattle.b1_text.specs.declared.draft.Draft.{Draft}
 use Rattle.b1_text.specs.declared.draft.Draft.TheVariants.{Empty}
 use Rattle.b1_text.specs.declared.statement.Statement.{Statement}
 use Rattle.b1_text.specs.Bodies.{space}
-use Rattle.b1_text.specs.Drafts.{IsCarried, Fits, record_len, run}
+use Rattle.b1_text.specs.Drafts.{Fits, run}
 
 -- a draft that statements made
 pub record IsReached (d : Draft) : Type 0 where
@@ -27,10 +27,11 @@ pub record Passes {X : Type 0} (IsOf : X → Type 0) (test : X → Bool) (x : X)
   pub fits : IsOf x
   pub goes_on : test x ≡ true
 
--- a peer with a pool of a size that a pool may have
-pub record HasSpec (p : PeerSpec) : Type 0 where
+-- a peer with a pool of a size that a pool may have, and for which there is room
+pub record HasSpec (room : ℕ) (p : PeerSpec) : Type 0 where
   pub spec : IsSpec p
   pub pool : HasPool p
+  pub fits : p.pool ≤ room
 
 -- an own number, of 64 bits
 pub record IsOwn (n : ℕ) : Type 0 where
@@ -41,10 +42,32 @@ pub record IsOwn (n : ℕ) : Type 0 where
 abbrev pub AreFew : List Wire → Type 0
 AreFew held = length held < WIRE_LIMIT
 
--- a command for whose record there is room
+-- the bytes of a command's record but for its cookie
+abbrev pub plain_len : Command → ℕ
+plain_len c = 8 + length (body_spelling c)
+
+-- a command that a record without a cookie can carry
+pub record IsRecorded (c : Command) : Type 0 where
+  pub within : IsWithin c
+  pub numbers : HasNumbers c
+
+-- such a command, for whose record there is room
 pub record HasRoom (room : ℕ) (c : Command) : Type 0 where
-  pub carried : IsCarried c
-  pub fits : record_len c ≤ room
+  pub carried : IsRecorded c
+  pub fits : plain_len c ≤ room
+
+-- a command that a record with a cookie can carry, for which there is room beside the cookie
+pub record HasRoomBeside (room : ℕ) (c : Command) : Type 0 where
+  pub within : IsWithin2 c
+  pub numbers : HasNumbers c
+  pub fits : plain_len c ≤ room
+
+-- a cookie and a command, for whose record there is room
+pub record HasMarkedRoom (room : ℕ) (x : ℕ × Command) : Type 0 where
+  pub cookie : Is64 x.0
+  pub within : IsWithin2 x.1
+  pub numbers : HasNumbers x.1
+  pub fits : plain_len x.1 + 8 ≤ room
 
 -- commands of one word, of handles or a slice alone, of limits, and SENDs
 abbrev pub is_plain : Command → Bool

@@ -1,32 +1,81 @@
-ghost use Rattle.std.specs.Prelude.{◌≤◌, ◌*◌, ◌++◌, ◌↔◌, ℕ, IsTrue, IfOk, codes};
+ghost use Rattle.std.specs.Prelude.{◌≤◌, ◌*◌, ◌==◌, ◌++◌, ◌↔◌, ◌&&◌, not, ℕ, IsTrue, IfOk, codes};
+ghost use Rattle.std.specs.List.{list_all};
 ghost use Rattle.b1_records.specs.Spelling.{AreLimits, most_numbers, most_bytes, rounded};
 ghost use Rattle.b1_text_words.specs.declared.items.Form.TheVariants.{Script};
 ghost use Rattle.b1_text_words.specs.Commands.{command_text_in, limits_text};
 ghost use Rattle.b1_text_words.specs.Words.{Spells, Begins};
-ghost use Rattle.b1_text.specs.Drafts.{IsCarried, has_room, record_len};
-ghost use Rattle.b1_text.specs.Nexts.{Passes, HasRoom, HasRoomAs, is_plain, is_reference, is_reset, is_send, IsPayload, IsCargo, IsLoad, data_text, cargo_text, with_text, load_text};
+ghost use Rattle.b1_text.specs.Texts.{entry_text};
+ghost use Rattle.b1_text.specs.Bodies.{marked_body};
+ghost use Rattle.b1_text.specs.Drafts.{IsCarried, has_room, is_of, record_len};
+ghost use Rattle.b1_text.specs.Nexts.{Passes, HasRoom, HasRoomBeside, HasMarkedRoom, HasRoomAs, is_plain, is_reference, is_reset, is_send, IsPayload, IsCargo, IsLoad, data_text, cargo_text, with_text, load_text};
 
 use crate::begin_parts::{begins_one, begins_several};
-use crate::fields::behind;
-use b1_model::{MOST_BYTES, MOST_NUMBERS, MOST_SCRIPT};
+use crate::draft::COOKIE_LEN;
+use crate::fields::{behind, read_cookie};
+use b1_model::{MOST_BYTES, MOST_NUMBERS, Version};
+use b1_script::most_len;
 use b1_text_words::{
     Form, Item, Kind, begins_bytes, begins_line, begins_list, begins_text, read_list, split,
 };
 use std::alloc::{AllocError, Global};
 
-/// Whether the line of a command for whose record there is room begins with these bytes. An error is want of memory.
-pub fn begins_next_command(alloc: Global, len: usize, line: &[u8]) -> Result<bool, AllocError>
+/// How many bytes the least command's record has, without a cookie.
+const LEAST_RECORD: usize = 8;
+
+/// Whether the line of a command for whose record there is room begins with these bytes, in a text of this version and of so
+/// many peers. An error is want of memory.
+pub fn begins_next_command(
+    alloc: Global,
+    version: Version,
+    peers: usize,
+    len: usize,
+    line: &[u8],
+) -> Result<bool, AllocError>
     ensures { IfOk result (λ can. IsTrue can
-        ↔ Begins (Spells (command_text_in Script) (Passes IsCarried (λ c.
-        has_room len (record_len c)))) line.now) }
+        ↔ Begins (Spells entry_text (Passes IsCarried (λ e. is_of version e.cookie
+        && has_room peers len (record_len e)))) line.now) }
 {
-    if len > MOST_SCRIPT {
+    let most = most_len(peers);
+    if len > most {
         return Ok(false);
     }
-    begins_command(alloc, MOST_SCRIPT - len, line)
+    match version {
+        Version::One => begins_command(alloc, most - len, line),
+        Version::Two => begins_marked(alloc, most - len, line),
+    }
 }
 
-/// Whether the line of a command whose record has so many bytes at most begins with these bytes.
+/// Whether the line of a command and its cookie, whose record has so many bytes at most, begins with these bytes.
+fn begins_marked(alloc: Global, room: usize, line: &[u8]) -> Result<bool, AllocError>
+    ensures { IfOk result (λ can. IsTrue can
+        ↔ Begins (Spells marked_body (HasMarkedRoom room)) line.now) }
+{
+    if room < LEAST_RECORD + COOKIE_LEN {
+        return Ok(false);
+    }
+    let Some((first, rest)) = split(line, b' ') else {
+        return Ok(begins_one("#", Item::UpTo(u64::MAX), line));
+    };
+    match read_cookie(first) {
+        Some(_) => begins_beside(alloc, room - COOKIE_LEN, rest),
+        None => Ok(false),
+    }
+}
+
+/// Whether the line of a command that a record with a cookie can carry begins with these bytes, where the record has so
+/// many bytes at most beside the cookie.
+fn begins_beside(alloc: Global, room: usize, line: &[u8]) -> Result<bool, AllocError>
+    ensures { IfOk result (λ can. IsTrue can
+        ↔ Begins (Spells (command_text_in Script) (HasRoomBeside room)) line.now) }
+{
+    if room >= 24 && begins_limits("limit", line) {
+        return Ok(true);
+    }
+    begins_command(alloc, room, line)
+}
+
+/// Whether the line of a command that a record without a cookie can carry begins with these bytes, where the record has so
+/// many bytes at most.
 fn begins_command(alloc: Global, room: usize, line: &[u8]) -> Result<bool, AllocError>
     ensures { IfOk result (λ can. IsTrue can
         ↔ Begins (Spells (command_text_in Script) (HasRoom room)) line.now) }
@@ -42,7 +91,7 @@ fn begins_plain(room: usize, line: &[u8]) -> bool
     ensures { IsTrue result ↔ Begins
         (Spells (command_text_in Script) (HasRoomAs is_plain room)) line.now }
 {
-    if room < 8 {
+    if room < LEAST_RECORD {
         return false;
     }
     if begins_text("disconnect", line) || begins_text("query", line) || begins_text("recv", line) {
@@ -73,16 +122,17 @@ fn begins_reset(room: usize, line: &[u8]) -> bool
     ensures { IsTrue result ↔ Begins
         (Spells (command_text_in Script) (HasRoomAs is_reset room)) line.now }
 {
-    room >= 24 && begins_limits(line)
+    room >= 24 && begins_limits("reset", line)
 }
 
-/// Whether the line of a PEER_RESET begins with these bytes.
-fn begins_limits(line: &[u8]) -> bool
-    ensures { IsTrue result ↔ Begins (Spells (λ l. codes "reset "
+/// Whether a line of this word and of limits begins with these bytes.
+fn begins_limits(word: &str, line: &[u8]) -> bool
+    requires { IsTrue (list_all (λ b. not (b == 32)) word.now) }
+    ensures { IsTrue result ↔ Begins (Spells (λ l. word.now ++ codes " "
         ++ limits_text l) AreLimits) line.now }
 {
     let limit = Kind::One(Item::UpTo(u32::MAX as u64));
-    begins_line(b' ', &[Kind::Fixed("reset"), limit, limit, limit], line)
+    begins_line(b' ', &[Kind::Fixed(word), limit, limit, limit], line)
 }
 
 /// How many handles there are in so many bytes, at most.

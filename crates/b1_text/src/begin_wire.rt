@@ -1,5 +1,6 @@
 ghost use Rattle.std.specs.Prelude.{◌&&◌, ◌<◌, ◌≤◌, ◌↔◌, IsTrue, length};
 ghost use Rattle.std.specs.Fmt.{decimal};
+ghost use Rattle.b1_model.specs.declared.limits.TheConstants.{MOST_PEERS};
 ghost use Rattle.b1_records.specs.Spelling.{Is32};
 ghost use Rattle.b1_text_words.specs.Words.{Spells, Begins};
 ghost use Rattle.b1_text.specs.Texts.{wire_text};
@@ -14,19 +15,20 @@ use b1_model::{Held, Opening, Wire};
 use b1_text_words::{Item, Numbers, begins_item, begins_text, split};
 
 pub fn begins_next_wire(opening: &Opening, held: &Held, len: usize, line: &[u8]) -> bool
-    requires peers { length opening.now.peers ≤ 64 }
+    requires peers { length opening.now.peers ≤ MOST_PEERS }
     requires few { AreFew held.now }
     ensures { IsTrue result ↔ Begins (Spells wire_text (Passes HasWireFields (λ w.
-        can_wire (length opening.now.peers) held.now w && has_room len wire_len))) line.now }
+        can_wire (length opening.now.peers) held.now w
+        && has_room (length opening.now.peers) len wire_len))) line.now }
 {
     let peers = opening.peers.len();
-    peers >= 2 && has_room(len, WIRE_LEN) && begins_wire(peers as u32, held, line)
+    peers >= 2 && has_room(peers, len, WIRE_LEN) && begins_wire(peers as u32, held, line)
 }
 
 /// Whether the line of a wire that can be made begins with these bytes.
 fn begins_wire(peers: u32, held: &Held, line: &[u8]) -> bool
     requires some { 2 ≤ peers }
-    requires peers { peers ≤ 64 }
+    requires peers { peers ≤ MOST_PEERS }
     requires few { AreFew held.now }
     ensures { IsTrue result ↔ Begins
         (Spells wire_text (Passes HasWireFields (can_wire peers held.now))) line.now }
@@ -39,7 +41,7 @@ fn begins_wire(peers: u32, held: &Held, line: &[u8]) -> bool
 
 fn begins_from(peers: u32, held: &Held, line: &[u8]) -> bool
     requires some { 2 ≤ peers }
-    requires peers { peers ≤ 64 }
+    requires peers { peers ≤ MOST_PEERS }
     requires few { AreFew held.now }
     ensures { IsTrue result ↔ Begins
         (Spells wire_body (Passes HasWireFields (can_wire peers held.now))) line.now }
@@ -55,7 +57,7 @@ fn begins_from(peers: u32, held: &Held, line: &[u8]) -> bool
 
 fn begins_end(peers: u32, held: &Held, from: u32, line: &[u8]) -> bool
     requires some { 2 ≤ peers }
-    requires peers { peers ≤ 64 }
+    requires peers { peers ≤ MOST_PEERS }
     requires from { from < peers }
     requires few { AreFew held.now }
     ensures { IsTrue result ↔ Begins (Spells end_body (Passes IsEnd (λ x.

@@ -1,11 +1,12 @@
 ghost use Rattle.std.specs.Prelude.{◌==◌, ◌&&◌, ◌<◌, ◌≤◌, ◌+◌, ◌++◌, ◌↔◌, nat_lt, IsTrue, IfOk, length, codes};
 ghost use Rattle.std.specs.Fmt.{decimal};
+ghost use Rattle.b1_model.specs.declared.limits.TheConstants.{MOST_PEERS};
 ghost use Rattle.b1_records.specs.Spelling.{Is32, Is64};
 ghost use Rattle.b1_script.specs.Spelling.{IsSpec};
 ghost use Rattle.b1_script.specs.Reading.{is_first_clock};
 ghost use Rattle.b1_text_words.specs.Numbers.{list_text};
 ghost use Rattle.b1_text_words.specs.Words.{Spells, Begins};
-ghost use Rattle.b1_text.specs.declared.draft.Draft.TheVariants.{Opened, Listing};
+ghost use Rattle.b1_text.specs.declared.draft.Draft.TheVariants.{Empty, Opened, Listing};
 ghost use Rattle.b1_text.specs.Texts.{peer_text};
 ghost use Rattle.b1_text.specs.Drafts.{IsNext, AreTurns, can_peer, can_turn, has_room, peer_len, turns_len};
 ghost use Rattle.b1_text.specs.Nexts.{IsReached, Passes, HasSpec, AreFew};
@@ -13,8 +14,9 @@ ghost use Rattle.b1_text.specs.Nexts.{IsReached, Passes, HasSpec, AreFew};
 use crate::begin_command::begins_next_command;
 use crate::begin_parts::{begins_number, begins_one, begins_several};
 use crate::begin_wire::begins_next_wire;
-use crate::draft::{Draft, has_room, peer_len};
-use b1_model::{CommandLists, Commands, Held, MOST_FILE_PEERS, MOST_SCRIPT, Opening};
+use crate::draft::{Draft, Entries, EntryLists, has_room, peer_len, pools_left};
+use b1_model::{Held, MOST_POOL, Opening, Version};
+use b1_script::{most_len, most_peers};
 use b1_text_words::{Item, Kind, Numbers, begins_line, begins_text};
 use std::alloc::{AllocError, Global};
 
@@ -24,17 +26,29 @@ pub fn can_become_next(alloc: Global, draft: &Draft, line: &[u8]) -> Result<bool
     ensures { IfOk result (λ can. IsTrue can ↔ Begins (IsNext draft.now) line.now) }
 {
     match draft {
-        Draft::Empty => Ok(begins_text("bus1 script 1", line)),
-        Draft::Named => Ok(begins_clock(line)),
-        Draft::Opened { opening, held, len } => Ok(begins_opened(opening, held, *len, line)),
+        Draft::Empty => Ok(begins_name(line)),
+        Draft::Named { .. } => Ok(begins_clock(line)),
+        Draft::Opened {
+            version,
+            opening,
+            held,
+            len,
+        } => Ok(begins_opened(*version, opening, held, *len, line)),
         Draft::Listing {
+            version,
             opening,
             lists,
             list,
             len,
-        } => begins_listing(alloc, opening, lists, list, *len, line),
+        } => begins_listing(alloc, *version, opening, lists, list, *len, line),
         Draft::Whole(_) => Ok(false),
     }
+}
+
+fn begins_name(line: &[u8]) -> bool
+    ensures { IsTrue result ↔ Begins (IsNext Empty) line.now }
+{
+    begins_text("bus1 script 1", line) || begins_text("bus1 script 2", line)
 }
 
 fn begins_clock(line: &[u8]) -> bool
@@ -49,35 +63,40 @@ fn begins_clock(line: &[u8]) -> bool
     begins_one("clock ", Item::Among(clocks), line)
 }
 
-fn begins_opened(opening: &Opening, held: &Held, len: usize, line: &[u8]) -> bool
-    requires peers { length opening.now.peers ≤ 64 }
+fn begins_opened(version: Version, opening: &Opening, held: &Held, len: usize, line: &[u8]) -> bool
+    requires peers { length opening.now.peers ≤ MOST_PEERS }
     requires few { AreFew held.now }
-    ensures { IsTrue result ↔ Begins (IsNext (Opened opening.now held.now len)) line.now }
+    ensures { IsTrue result ↔ Begins (IsNext (Opened version opening.now held.now len)) line.now }
 {
-    if begins_next_peer(opening, len, line) || begins_next_wire(opening, held, len, line) {
+    if begins_next_peer(version, opening, len, line) || begins_next_wire(opening, held, len, line) {
         return true;
     }
     begins_first_list(opening, line)
 }
 
-fn begins_next_peer(opening: &Opening, len: usize, line: &[u8]) -> bool
-    ensures { IsTrue result ↔ Begins (Spells peer_text (Passes IsSpec (λ p. can_peer opening.now p
-        && has_room len (peer_len opening.now)))) line.now }
+fn begins_next_peer(version: Version, opening: &Opening, len: usize, line: &[u8]) -> bool
+    requires { length opening.now.peers ≤ MOST_PEERS }
+    ensures { IsTrue result ↔ Begins
+        (Spells peer_text (Passes IsSpec (λ p. can_peer version opening.now p
+        && has_room (length opening.now.peers + 1) len (peer_len opening.now)))) line.now }
 {
     opening.wires.len() == 0
-        && opening.peers.len() < MOST_FILE_PEERS
-        && has_room(len, peer_len(opening))
-        && begins_spec(line)
+        && opening.peers.len() < most_peers(version)
+        && has_room(opening.peers.len() + 1, len, peer_len(opening))
+        && begins_spec(pools_left(opening.peers.as_slice()), line)
 }
 
-/// Whether the line of a peer of any limits begins with these bytes.
-fn begins_spec(line: &[u8]) -> bool
-    ensures { IsTrue result ↔ Begins (Spells peer_text HasSpec) line.now }
+/// Whether the line of a peer with a pool of so many bytes at most, and of any limits, begins with these bytes.
+fn begins_spec(left: u64, line: &[u8]) -> bool
+    ensures { IsTrue result ↔ Begins (Spells peer_text (HasSpec left)) line.now }
 {
+    if left < 8 {
+        return false;
+    }
     let limit = Kind::One(Item::UpTo(u32::MAX as u64));
     let pools = Numbers {
         least: 8,
-        most: 4_194_304,
+        most: left.min(MOST_POOL as u64),
         step: 8,
     };
     let kinds = [
@@ -100,7 +119,7 @@ fn begins_first_list(opening: &Opening, line: &[u8]) -> bool
 }
 
 fn begins_list(opening: &Opening, lists: usize, line: &[u8]) -> bool
-    requires { lists < 64 }
+    requires { lists < MOST_PEERS }
     ensures { IsTrue result ↔ Begins (Spells (λ n. codes "commands "
         ++ decimal n) (Passes Is32 (λ n. (n == lists + 1)
         && nat_lt n (length opening.now.peers)))) line.now }
@@ -110,33 +129,35 @@ fn begins_list(opening: &Opening, lists: usize, line: &[u8]) -> bool
 }
 
 fn begins_turns(opening: &Opening, lists: usize, len: usize, line: &[u8]) -> bool
-    requires { lists < 64 }
+    requires { lists < MOST_PEERS }
     ensures { IsTrue result ↔ Begins (Spells (λ ns. codes "turns "
         ++ list_text decimal ns) (Passes AreTurns (λ ns. can_turn opening.now (lists + 1) ns
-        && has_room len (turns_len (length ns))))) line.now }
+        && has_room (length opening.now.peers) len (turns_len (length ns))))) line.now }
 {
-    if lists + 1 != opening.peers.len() || len > MOST_SCRIPT {
+    let most = most_len(opening.peers.len());
+    if lists + 1 != opening.peers.len() || len > most {
         return false;
     }
-    let most = (MOST_SCRIPT - len) / 8 * 2;
+    let most = (most - len) / 8 * 2;
     begins_several("turns ", Item::UpTo(lists as u64), most as u64, line)
 }
 
 fn begins_listing(
     alloc: Global,
+    version: Version,
     opening: &Opening,
-    lists: &CommandLists,
-    _list: &Commands,
+    lists: &EntryLists,
+    _list: &Entries,
     len: usize,
     line: &[u8],
 ) -> Result<bool, AllocError>
-    requires { length lists.now < 64 }
+    requires { length lists.now < MOST_PEERS }
     ensures { IfOk result (λ can. IsTrue can
-        ↔ Begins (IsNext (Listing opening.now lists.now _list.now len)) line.now) }
+        ↔ Begins (IsNext (Listing version opening.now lists.now _list.now len)) line.now) }
 {
     let before = lists.len();
     if begins_list(opening, before, line) || begins_turns(opening, before, len, line) {
         return Ok(true);
     }
-    begins_next_command(alloc, len, line)
+    begins_next_command(alloc, version, opening.peers.len(), len, line)
 }

@@ -1,14 +1,15 @@
-ghost use Rattle.std.specs.Prelude.{◌≡◌, ◌≢◌, ◌++◌, ℕ, List, MatchOption};
+ghost use Rattle.std.specs.Prelude.{◌≡◌, ◌≢◌, ◌++◌, ℕ, List, IfOk, MatchOption};
 ghost use Rattle.std.specs.Fmt.{decimal};
 ghost use Rattle.b1_records.specs.Spelling.{Is32, Is64, AreLimits};
 ghost use Rattle.b1_script.specs.Spelling.{IsSpec};
 ghost use Rattle.b1_text_words.specs.Numbers.{script_handle_text};
 ghost use Rattle.b1_text_words.specs.Words.{Reads};
-ghost use Rattle.b1_text.specs.Bodies.{two_text, AreTwo, limits_body, pool_body, IsPoolWithLimits, peer_body, end_body, IsEnd, wire_body};
+ghost use Rattle.b1_text.specs.Bodies.{two_text, AreTwo, limits_body, pool_body, IsPoolWithLimits, peer_body, end_body, IsEnd, wire_body, cookie_word, marked_body, IsMarked};
 ghost use Rattle.b1_text.specs.Drafts.{HasWireFields};
 
-use b1_model::{Limits, PeerSpec, Wire};
-use b1_text_words::{Form, Item, read_item, split};
+use b1_model::{Command, Limits, PeerSpec, Version, Wire};
+use b1_text_words::{Form, Item, read_command, read_item, split};
+use std::alloc::{AllocError, Global};
 
 /// What stands in a line behind these bytes; `None` where it doesn't begin with them.
 pub fn behind<'a>(word: &str, line: &'a [u8]) -> Option<&'a [u8]>
@@ -98,4 +99,27 @@ pub fn read_wire(line: &[u8]) -> Option<Wire>
     let from = read_u32(first)?;
     let (number, to) = read_end(rest)?;
     Some(Wire { from, to, number })
+}
+
+/// A cookie.
+pub fn read_cookie(word: &[u8]) -> Option<u64>
+    ensures { Reads cookie_word Is64 word.now result }
+{
+    read_u64(behind("#", word)?)
+}
+
+/// A command behind its cookie. An error is want of memory.
+pub fn read_marked(alloc: Global, line: &[u8]) -> Result<Option<(u64, Command)>, AllocError>
+    ensures { IfOk result (λ found. Reads marked_body IsMarked line.now found) }
+{
+    let Some((first, rest)) = split(line, b' ') else {
+        return Ok(None);
+    };
+    let Some(cookie) = read_cookie(first) else {
+        return Ok(None);
+    };
+    match read_command(alloc, Form::Script, Version::Two, rest)? {
+        Some(command) => Ok(Some((cookie, command))),
+        None => Ok(None),
+    }
 }

@@ -26,7 +26,7 @@ use b1_script::Script;
 use printing::write_script;
 use std::alloc::{AllocError, Global};
 
-/// The text of a script without cookies, in which no PEER_RESET is without flush. An error is want of memory.
+/// The text of a script, of the script's version. An error is want of memory.
 pub fn print_script(alloc: Global, script: &Script) -> Result<Vec<u8>, AllocError>
     requires { HasSpelling script.now }
     ensures { IfOk result (λ text. text.items ≡ script_text script.now) }

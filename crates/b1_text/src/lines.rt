@@ -5,9 +5,9 @@ ghost use Rattle.b1_text_words.specs.Words.{Reads};
 ghost use Rattle.b1_text.specs.Texts.{statement_text};
 ghost use Rattle.b1_text.specs.Drafts.{Fits};
 
-use crate::fields::{behind, read_peer, read_u32, read_u64, read_wire};
-use crate::statement::Statement;
-use b1_model::MOST_SCRIPT;
+use crate::fields::{behind, read_marked, read_peer, read_u32, read_u64, read_wire};
+use crate::statement::{Entry, Statement};
+use b1_model::{MOST_SCRIPT, Version};
 use b1_script::Turns;
 use b1_text_words::{Form, Item, is_text, read_command, read_list};
 use std::alloc::{AllocError, Global};
@@ -16,8 +16,8 @@ use std::alloc::{AllocError, Global};
 pub fn read_line(alloc: Global, line: &[u8]) -> Result<Option<Statement>, AllocError>
     ensures { IfOk result (λ found. Reads statement_text Fits line.now found) }
 {
-    if is_text("bus1 script 1", line) {
-        return Ok(Some(Statement::Name));
+    if let Some(body) = behind("bus1 script ", line) {
+        return Ok(read_version(body));
     }
     if let Some(body) = behind("clock ", line) {
         return Ok(read_clock(body));
@@ -34,10 +34,34 @@ pub fn read_line(alloc: Global, line: &[u8]) -> Result<Option<Statement>, AllocE
     if let Some(body) = behind("turns ", line) {
         return read_turns(alloc, body);
     }
-    match read_command(alloc, Form::Script, line)? {
-        Some(command) => Ok(Some(Statement::Command(command))),
+    if let Some((cookie, command)) = read_marked(alloc, line)? {
+        let cookie = Some(cookie);
+        return Ok(Some(Statement::Command(Entry { cookie, command })));
+    }
+    match read_command(alloc, Form::Script, Version::One, line)? {
+        Some(command) => Ok(Some(Statement::Command(Entry {
+            cookie: None,
+            command,
+        }))),
         None => Ok(None),
     }
+}
+
+/// The version of a text.
+fn read_version(body: &[u8]) -> Option<Statement>
+    ensures { Reads statement_text Fits (codes "bus1 script " ++ body.now) result }
+{
+    if is_text("1", body) {
+        return Some(Statement::Name {
+            version: Version::One,
+        });
+    }
+    if is_text("2", body) {
+        return Some(Statement::Name {
+            version: Version::Two,
+        });
+    }
+    None
 }
 
 fn read_clock(body: &[u8]) -> Option<Statement>

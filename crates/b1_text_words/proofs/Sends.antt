@@ -5,6 +5,7 @@ use Rattle.std.proofs.lemmas.Bool.{cases_eq}
 use Rattle.std.proofs.lemmas.Fmt.{decimal_digit}
 use Rattle.b1_model.specs.declared.commands.Command.{Command}
 use Rattle.b1_model.specs.declared.commands.Command.TheVariants as cmd
+use Rattle.b1_model.specs.declared.version.Version.TheVariants.{Two}
 use Rattle.b1_text_words.specs.declared.items.Form.{Form}
 use Rattle.b1_text_words.specs.declared.items.Item.TheVariants.{Handle}
 use Rattle.b1_text_words.specs.Commands.{command_text_in, flag_of, IsCommand, IsSend, most_numbers, most_bytes}
@@ -60,7 +61,7 @@ line_shape : (flag to with payload : List ℕ) →
     ≡ codes "send " ++ ((flag ++ 32 ∷ codes "to ") ++ (to ++ 32 ∷ (codes "with " ++ (with ++ 32 ∷ (codes "data " ++ payload)))))
 line_shape flag to with payload = ap (λ t. codes "send " ++ t) (sym (append_assoc flag (32 ∷ codes "to ") (to ++ 32 ∷ (codes "with " ++ (with ++ 32 ∷ (codes "data " ++ payload))))))
 
-send_line : (form : Form) (w : List ℕ) → Send form (most_numbers form) (most_bytes form) w → Spelled form IsSendIn w
+send_line : (form : Form) (w : List ℕ) → Send form (most_numbers form) (most_bytes form) w → Spelled form (IsSendIn form) w
 send_line form w line =
     let flag = line.is_rest.is_first in
     let to = line.is_rest.is_rest.is_rest.is_first in
@@ -89,7 +90,7 @@ send_line form w line =
           ∙ sym (send_shape (flag_of go_on.0) (text to.value) (text with.value) (hex_text payload.value));
     }
 
-line_send : (form : Form) (w : List ℕ) → Spelled form IsSendIn w → Send form (most_numbers form) (most_bytes form) w
+line_send : (form : Form) (w : List ℕ) → Spelled form (IsSendIn form) w → Send form (most_numbers form) (most_bytes form) w
 line_send form w s = split s.value s.is_of s.same where
   split : (c : Command) → IsSendIn form c → w ≡ command_text_in form c → Send form (most_numbers form) (most_bytes form) w
   split (cmd.Send send) of same =
@@ -137,8 +138,8 @@ line_send form w s = split s.value s.is_of s.same where
       }
   split command of same = absurd of
 
-pub send_begins : (form : Form) (numbers bytes : ℕ) (r : Bool) (w : List ℕ) → numbers ≡ most_numbers form → bytes ≡ most_bytes form → (IsTrue r ↔ Begins (Send form numbers bytes) w) → IsTrue r ↔ Begins (Spelled form IsSendIn) w
-send_begins form numbers bytes r w is_numbers is_bytes says = begins_both (Send form (most_numbers form) (most_bytes form)) (Spelled form IsSendIn) w r (send_line form) (line_send form)
+pub send_begins : (form : Form) (numbers bytes : ℕ) (r : Bool) (w : List ℕ) → numbers ≡ most_numbers form → bytes ≡ most_bytes form → (IsTrue r ↔ Begins (Send form numbers bytes) w) → IsTrue r ↔ Begins (Spelled form (IsSendIn form)) w
+send_begins form numbers bytes r w is_numbers is_bytes says = begins_both (Send form (most_numbers form) (most_bytes form)) (Spelled form (IsSendIn form)) w r (send_line form) (line_send form)
     (subst (λ b. IsTrue r ↔ Begins (Send form (most_numbers form) b) w) is_bytes (subst (λ n. IsTrue r ↔ Begins (Send form n bytes) w) is_numbers says))
 
 -- what is read of a SEND
@@ -189,7 +190,7 @@ pub record SendOf (form : Form) (rest : List ℕ) (c : Command) : Type 0 where
   pub flag : rest ≡ flag_of send.go_on ++ tail
   pub words : AreSendWords (list_text (item_text (Handle form)) send.to) (list_text (item_text (Handle form)) send.with) (hex_text send.payload) tail
 
-pub send_of : (form : Form) (rest : List ℕ) (c : Command) → IsCommand form c → codes "send " ++ rest ≡ command_text_in form c → SendOf form rest c
+pub send_of : (form : Form) (rest : List ℕ) (c : Command) → IsCommand form Two c → codes "send " ++ rest ≡ command_text_in form c → SendOf form rest c
 send_of form rest (cmd.Send send) is same =
     let text = list_text (item_text (Handle form)) in
     let free = λ (xs : List ℕ) (all : AreItems (Handle form) (most_numbers form) xs). free_lettered 32 (text xs) refl (lettered_list (Handle form) tt xs all.items) in
@@ -206,7 +207,7 @@ send_of form rest (cmd.Send send) is same =
 send_of form rest cmd.Disconnect is same = absurd (let h = ap (λ w. get_or w 0 0) same in omega (arith, h))
 send_of form rest cmd.Query is same = absurd (let h = ap (λ w. get_or w 0 0) same in omega (arith, h))
 send_of form rest (cmd.Reset limits) is same = absurd (let h = ap (λ w. get_or w 0 0) same in omega (arith, h))
-send_of form rest (cmd.Limit limits) is same = absurd is
+send_of form rest (cmd.Limit limits) is same = absurd (let h = ap (λ w. get_or w 0 0) same in omega (arith, h))
 send_of form rest (cmd.Release number) is same = absurd (let h = ap (λ w. get_or w 0 0) same in omega (arith, h))
 send_of form rest (cmd.Destroy numbers) is same = absurd (let h = ap (λ w. get_or w 0 0) same in omega (arith, h))
 send_of form rest (cmd.SliceRelease offset) is same = absurd (let h = ap (λ w. get_or w 1 0) same in omega (arith, h))
@@ -214,7 +215,7 @@ send_of form rest cmd.Recv is same = absurd (let h = ap (λ w. get_or w 0 0) sam
 send_of form rest cmd.Await is same = absurd (let h = ap (λ w. get_or w 0 0) same in omega (arith, h))
 
 abbrev pub ReadsSend : Form → List ℕ → Option Command → Type 0
-ReadsSend form rest r = Reads (command_text_in form) (IsCommand form) (codes "send " ++ rest) r
+ReadsSend form rest r = Reads (command_text_in form) (IsCommand form Two) (codes "send " ++ rest) r
 
 pub no_flag : (form : Form) (rest : List ℕ) → IsNoFlag rest → ReadsSend form rest None
 no_flag form rest never = record { found = tt; whole = λ c is same. let s = send_of form rest c is same in absurd (never s.send.go_on s.tail s.flag) }

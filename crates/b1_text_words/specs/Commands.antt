@@ -1,11 +1,13 @@
 -- How texts write commands.
-use Rattle.std.specs.Prelude.{ℕ, ◌-◌, ◌^◌, ◌<◌, Bool, if◌then◌else◌, List, ◌++◌, codes}
+use Rattle.std.specs.Prelude.{ℕ, ◌-◌, ◌^◌, ◌<◌, Bool, if◌then◌else◌, List, [], ◌++◌, Option, None, Some, codes}
 use Rattle.std.specs.Fmt.{decimal}
 use Rattle.b1_model.specs.declared.commands.Command.{Command}
 use Rattle.b1_model.specs.declared.commands.Command.TheVariants as cmd
 use Rattle.b1_model.specs.declared.commands.SendCmd.{SendCmd}
 use Rattle.b1_model.specs.declared.limits.TheConstants.{MOST_NUMBERS, MOST_BYTES}
 use Rattle.b1_model.specs.declared.naming.Limits.{Limits}
+use Rattle.b1_model.specs.declared.version.Version.{Version}
+use Rattle.b1_model.specs.declared.version.Version.TheVariants.{One, Two}
 use Rattle.b1_text_words.specs.declared.items.Form.{Form}
 use Rattle.b1_text_words.specs.declared.items.Form.TheVariants.{Script, Report}
 use Rattle.b1_text_words.specs.declared.items.Item.TheVariants.{Handle, Offset}
@@ -25,7 +27,7 @@ send_text_in form s =
 abbrev pub limits_text : Limits → List ℕ
 limits_text limits = decimal limits.entries ++ codes " " ++ decimal limits.bytes ++ codes " " ++ decimal limits.handles
 
--- a command, in a script or in a report; the words of a PEER_RESET without flush stand in neither yet
+-- a command, in a script or in a report; a PEER_RESET without flush is called a limit
 abbrev pub command_text_in : Form → Command → List ℕ
 command_text_in form cmd.Disconnect = codes "disconnect"
 command_text_in form cmd.Query = codes "query"
@@ -38,9 +40,13 @@ command_text_in form (cmd.Send send) = send_text_in form send
 command_text_in form cmd.Recv = codes "recv"
 command_text_in form cmd.Await = codes "await"
 
--- a command that has words in this form: an AWAIT has none in a report, and a PEER_RESET without flush none in either yet
+-- what stands before a command's words in version 2
+abbrev pub cookie_text : Option ℕ → List ℕ
+cookie_text None = []
+cookie_text (Some cookie) = codes "#" ++ decimal cookie ++ codes " "
+
+-- a command that has words in this form: an AWAIT has none in a report
 abbrev pub HasWords : Form → Command → Type 0
-HasWords form (cmd.Limit limits) = ⊥
 HasWords Report cmd.Await = ⊥
 HasWords form command = Unit {0}
 
@@ -72,14 +78,15 @@ pub record IsSend (form : Form) (send : SendCmd) : Type 0 where
   pub with : AreItems (Handle form) (most_numbers form) send.with
   pub payload : AreBytes (most_bytes form) send.payload
 
--- a command of this form: its numbers fit their fields, and its lists have no more items than the form allows; no AWAIT
--- stands in a report, and no PEER_RESET without flush in either form yet
-abbrev pub IsCommand : Form → Command → Type 0
-IsCommand form (cmd.Reset limits) = AreLimits limits
-IsCommand form (cmd.Limit limits) = ⊥
-IsCommand form (cmd.Release number) = number < 2 ^ 64
-IsCommand form (cmd.Destroy numbers) = AreItems (Handle form) (most_numbers form) numbers
-IsCommand form (cmd.SliceRelease offset) = offset < 2 ^ 64
-IsCommand form (cmd.Send send) = IsSend form send
-IsCommand Report cmd.Await = ⊥
-IsCommand form command = Unit {0}
+-- a command of this form and version: its numbers fit their fields, and its lists have no more items than the form allows;
+-- no AWAIT stands in a report, and no PEER_RESET without flush in version 1
+abbrev pub IsCommand : Form → Version → Command → Type 0
+IsCommand form version (cmd.Reset limits) = AreLimits limits
+IsCommand form One (cmd.Limit limits) = ⊥
+IsCommand form Two (cmd.Limit limits) = AreLimits limits
+IsCommand form version (cmd.Release number) = number < 2 ^ 64
+IsCommand form version (cmd.Destroy numbers) = AreItems (Handle form) (most_numbers form) numbers
+IsCommand form version (cmd.SliceRelease offset) = offset < 2 ^ 64
+IsCommand form version (cmd.Send send) = IsSend form send
+IsCommand Report version cmd.Await = ⊥
+IsCommand form version command = Unit {0}

@@ -2,6 +2,8 @@
 use Rattle.std.specs.Prelude.{◌≡◌, ◌≢◌, ◌⊎◌, ℕ, Bool, List, ◌∷◌, ◌++◌, codes}
 use Rattle.b1_model.specs.declared.commands.Command.{Command}
 use Rattle.b1_model.specs.declared.commands.Command.TheVariants as cmd
+use Rattle.b1_model.specs.declared.version.Version.{Version}
+use Rattle.b1_model.specs.declared.version.Version.TheVariants.{Two}
 use Rattle.b1_text_words.specs.declared.items.Form.{Form}
 use Rattle.b1_text_words.specs.declared.items.Form.TheVariants.{Script}
 use Rattle.b1_text_words.specs.Commands.{IsCommand, flag_of}
@@ -37,28 +39,30 @@ IsAloneIn form cmd.Query = Unit {0}
 IsAloneIn form cmd.Disconnect = Unit {0}
 IsAloneIn form command = IsAwaitIn form command
 
--- a command of one kind
+-- a command of one kind; each but the PEER_RESET without flush stands in both versions
 abbrev pub IsReleaseIn : Form → Command → Type 0
-IsReleaseIn form (cmd.Release number) = IsCommand form (cmd.Release number)
+IsReleaseIn form (cmd.Release number) = IsCommand form Two (cmd.Release number)
 IsReleaseIn form command = ⊥
 
 abbrev pub IsSliceIn : Form → Command → Type 0
-IsSliceIn form (cmd.SliceRelease offset) = IsCommand form (cmd.SliceRelease offset)
+IsSliceIn form (cmd.SliceRelease offset) = IsCommand form Two (cmd.SliceRelease offset)
 IsSliceIn form command = ⊥
 
-abbrev pub IsResetIn : Form → Command → Type 0
-IsResetIn form (cmd.Reset limits) = IsCommand form (cmd.Reset limits)
-IsResetIn form command = ⊥
+abbrev pub IsResetIn : Form → Version → Command → Type 0
+IsResetIn form version (cmd.Reset limits) = IsCommand form version (cmd.Reset limits)
+IsResetIn form version (cmd.Limit limits) = IsCommand form version (cmd.Limit limits)
+IsResetIn form version command = ⊥
 
 abbrev pub IsDestroyIn : Form → Command → Type 0
-IsDestroyIn form (cmd.Destroy numbers) = IsCommand form (cmd.Destroy numbers)
+IsDestroyIn form (cmd.Destroy numbers) = IsCommand form Two (cmd.Destroy numbers)
 IsDestroyIn form command = ⊥
 
 -- a command of a word and numbers
-abbrev pub IsNumberedIn : Form → Command → Type 0
-IsNumberedIn form command = IsReleaseIn form command ⊎ (IsSliceIn form command ⊎ (IsResetIn form command ⊎ IsDestroyIn form command))
+abbrev pub IsNumberedIn : Form → Version → Command → Type 0
+IsNumberedIn form version command =
+    IsReleaseIn form command ⊎ (IsSliceIn form command ⊎ (IsResetIn form version command ⊎ IsDestroyIn form command))
 
 -- a SEND
 abbrev pub IsSendIn : Form → Command → Type 0
-IsSendIn form (cmd.Send send) = IsCommand form (cmd.Send send)
+IsSendIn form (cmd.Send send) = IsCommand form Two (cmd.Send send)
 IsSendIn form command = ⊥

@@ -1,4 +1,5 @@
 ghost use Rattle.std.specs.Prelude.{◌≡◌, ◌++◌, ◌↔◌, codes, IsTrue, IfOk, MatchOption};
+ghost use Rattle.b1_model.specs.declared.version.Version.TheVariants.{Two};
 ghost use Rattle.b1_text_words.specs.Commands.{command_text_in, limits_text, flag_of, IsCommand, AreLimits, most_numbers as spec_numbers, most_bytes as spec_bytes};
 ghost use Rattle.b1_text_words.specs.Verbs.{IsNotBehind, IsNoFlag, IsNoSend, AreSendWords, IsAloneIn, IsAwaitIn, IsNumberedIn, IsReleaseIn, IsSliceIn, IsResetIn, IsDestroyIn, IsSendIn};
 ghost use Rattle.b1_text_words.specs.Words.{Spells, Reads, Begins};
@@ -9,12 +10,27 @@ use crate::keys::{read_pair, read_small};
 use crate::kinds::{Kind, begins_line};
 use crate::lists::read_list;
 use crate::splitting::{begins_text, is_text, split};
-use b1_model::{Command, Limits, MOST_BYTES, MOST_NUMBERS, SendCmd};
+use b1_model::{Command, Limits, MOST_BYTES, MOST_NUMBERS, SendCmd, Version};
 use std::alloc::{AllocError, Global};
 
-/// The command that a line spells; `None` where it spells none of this form. An error is want of memory.
-pub fn read_command(alloc: Global, form: Form, line: &[u8]) -> Result<Option<Command>, AllocError>
-    ensures { IfOk result (λ r. Reads (command_text_in form) (IsCommand form) line.now r) }
+/// The command that a line spells; `None` where it spells none of this form and version. An error is want of memory.
+pub fn read_command(
+    alloc: Global,
+    form: Form,
+    version: Version,
+    line: &[u8],
+) -> Result<Option<Command>, AllocError>
+    ensures { IfOk result (λ r. Reads (command_text_in form) (IsCommand form version) line.now r) }
+{
+    match (version, read_either(alloc, form, line)?) {
+        (Version::One, Some(Command::Limit { .. })) => Ok(None),
+        (_, command) => Ok(command),
+    }
+}
+
+/// The command that a line spells in either version: the second has all commands.
+fn read_either(alloc: Global, form: Form, line: &[u8]) -> Result<Option<Command>, AllocError>
+    ensures { IfOk result (λ r. Reads (command_text_in form) (IsCommand form Two) line.now r) }
 {
     if let Some(rest) = behind("send ", line) {
         return read_send(alloc, form, rest);
@@ -30,6 +46,9 @@ pub fn read_command(alloc: Global, form: Form, line: &[u8]) -> Result<Option<Com
     }
     if let Some(rest) = behind("reset ", line) {
         return Ok(read_reset(form, rest));
+    }
+    if let Some(rest) = behind("limit ", line) {
+        return Ok(read_limit(form, rest));
     }
     Ok(read_alone(form, line))
 }
@@ -69,7 +88,7 @@ fn read_await(form: Form, word: &[u8]) -> Option<Command>
 }
 
 fn read_release(form: Form, rest: &[u8]) -> Option<Command>
-    ensures { Reads (command_text_in form) (IsCommand form) (codes "release " ++ rest.now) result }
+    ensures { Reads (command_text_in form) (IsCommand form Two) (codes "release " ++ rest.now) result }
 {
     match read_item(Item::Handle(form), rest) {
         Some(number) => Some(Command::Release { number }),
@@ -78,7 +97,7 @@ fn read_release(form: Form, rest: &[u8]) -> Option<Command>
 }
 
 fn read_slice(form: Form, rest: &[u8]) -> Option<Command>
-    ensures { Reads (command_text_in form) (IsCommand form) (codes "slice " ++ rest.now) result }
+    ensures { Reads (command_text_in form) (IsCommand form Two) (codes "slice " ++ rest.now) result }
 {
     match read_item(Item::Offset(form), rest) {
         Some(offset) => Some(Command::SliceRelease { offset }),
@@ -87,10 +106,19 @@ fn read_slice(form: Form, rest: &[u8]) -> Option<Command>
 }
 
 fn read_reset(form: Form, rest: &[u8]) -> Option<Command>
-    ensures { Reads (command_text_in form) (IsCommand form) (codes "reset " ++ rest.now) result }
+    ensures { Reads (command_text_in form) (IsCommand form Two) (codes "reset " ++ rest.now) result }
 {
     match read_limits(rest) {
         Some(limits) => Some(Command::Reset { limits }),
+        None => None,
+    }
+}
+
+fn read_limit(form: Form, rest: &[u8]) -> Option<Command>
+    ensures { Reads (command_text_in form) (IsCommand form Two) (codes "limit " ++ rest.now) result }
+{
+    match read_limits(rest) {
+        Some(limits) => Some(Command::Limit { limits }),
         None => None,
     }
 }
@@ -115,7 +143,7 @@ fn read_limits(line: &[u8]) -> Option<Limits>
 }
 
 fn read_destroy(alloc: Global, form: Form, rest: &[u8]) -> Result<Option<Command>, AllocError>
-    ensures { IfOk result (λ r. Reads (command_text_in form) (IsCommand form) (codes "destroy "
+    ensures { IfOk result (λ r. Reads (command_text_in form) (IsCommand form Two) (codes "destroy "
         ++ rest.now) r) }
 {
     match read_list(alloc, Item::Handle(form), most_numbers(form), rest)? {
@@ -125,7 +153,7 @@ fn read_destroy(alloc: Global, form: Form, rest: &[u8]) -> Result<Option<Command
 }
 
 fn read_send(alloc: Global, form: Form, rest: &[u8]) -> Result<Option<Command>, AllocError>
-    ensures { IfOk result (λ r. Reads (command_text_in form) (IsCommand form) (codes "send "
+    ensures { IfOk result (λ r. Reads (command_text_in form) (IsCommand form Two) (codes "send "
         ++ rest.now) r) }
 {
     let Some((go_on, rest)) = send_flag(rest) else {
@@ -203,14 +231,15 @@ fn most_bytes(form: Form) -> u64
     }
 }
 
-/// Whether a command's line of this form begins with these bytes.
-pub fn begins_command(form: Form, line: &[u8]) -> bool
-    ensures { IsTrue result ↔ Begins (Spells (command_text_in form) (IsCommand form)) line.now }
+/// Whether a command's line of this form and version begins with these bytes.
+pub fn begins_command(form: Form, version: Version, line: &[u8]) -> bool
+    ensures { IsTrue result
+        ↔ Begins (Spells (command_text_in form) (IsCommand form version)) line.now }
 {
     if begins_alone(form, line) {
         return true;
     }
-    if begins_numbers(form, line) {
+    if begins_numbers(form, version, line) {
         return true;
     }
     begins_send(form, line)
@@ -240,8 +269,9 @@ fn begins_await(form: Form, line: &[u8]) -> bool
     }
 }
 
-fn begins_numbers(form: Form, line: &[u8]) -> bool
-    ensures { IsTrue result ↔ Begins (Spells (command_text_in form) (IsNumberedIn form)) line.now }
+fn begins_numbers(form: Form, version: Version, line: &[u8]) -> bool
+    ensures { IsTrue result
+        ↔ Begins (Spells (command_text_in form) (IsNumberedIn form version)) line.now }
 {
     if begins_release(form, line) {
         return true;
@@ -249,7 +279,7 @@ fn begins_numbers(form: Form, line: &[u8]) -> bool
     if begins_slice(form, line) {
         return true;
     }
-    if begins_reset(form, line) {
+    if begins_reset(form, version, line) {
         return true;
     }
     begins_destroy(form, line)
@@ -269,11 +299,18 @@ fn begins_slice(form: Form, line: &[u8]) -> bool
     begins_line(b' ', &kinds, line)
 }
 
-fn begins_reset(form: Form, line: &[u8]) -> bool
-    ensures { IsTrue result ↔ Begins (Spells (command_text_in form) (IsResetIn form)) line.now }
+fn begins_reset(form: Form, version: Version, line: &[u8]) -> bool
+    ensures { IsTrue result
+        ↔ Begins (Spells (command_text_in form) (IsResetIn form version)) line.now }
 {
     let limit = Kind::One(Item::UpTo(u32::MAX as u64));
-    begins_line(b' ', &[Kind::Fixed("reset"), limit, limit, limit], line)
+    if begins_line(b' ', &[Kind::Fixed("reset"), limit, limit, limit], line) {
+        return true;
+    }
+    match version {
+        Version::One => false,
+        Version::Two => begins_line(b' ', &[Kind::Fixed("limit"), limit, limit, limit], line),
+    }
 }
 
 fn begins_destroy(form: Form, line: &[u8]) -> bool

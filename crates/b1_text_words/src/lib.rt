@@ -21,4 +21,4 @@ pub use items::{Form, Item, begins_item, read_item};
 pub use kinds::{Kind, begins_line};
 pub use lists::{begins_list, read_list};
 pub use splitting::{begins_text, is_text, split};
-pub use writing::{write_bytes, write_command, write_item, write_list};
+pub use writing::{write_bytes, write_command, write_cookie, write_item, write_list};

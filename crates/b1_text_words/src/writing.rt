@@ -1,5 +1,6 @@
-ghost use Rattle.std.specs.Prelude.{◌≡◌, ◌++◌, ◌-◌, ◌<◌, ◌≤◌, ◌^◌, All, OnOk, codes, flat_map, length, string_bytes};
-ghost use Rattle.b1_text_words.specs.Commands.{command_text_in, limits_text, send_text_in, AreLimits, HasWords, IsCommand, IsSend};
+ghost use Rattle.std.specs.Prelude.{◌≡◌, ◌++◌, ◌-◌, ◌<◌, ◌≤◌, ◌^◌, All, IfSome, OnOk, codes, flat_map, length, string_bytes};
+ghost use Rattle.b1_model.specs.declared.version.Version.TheVariants.{Two};
+ghost use Rattle.b1_text_words.specs.Commands.{command_text_in, cookie_text, limits_text, send_text_in, AreLimits, HasWords, IsCommand, IsSend};
 ghost use Rattle.b1_text_words.specs.declared.items.Form.TheVariants.{Report};
 ghost use Rattle.b1_text_words.specs.Items.{item_text};
 ghost use Rattle.b1_text_words.specs.Numbers.{number_text, script_handle_text, script_offset_text, hex_digit, hex_text, list_text};
@@ -119,6 +120,18 @@ fn digit(value: u8) -> char
     }
 }
 
+/// Appends what stands before a command's words: its cookie, or nothing. An error is want of memory.
+pub fn write_cookie(out: &mut String, cookie: Option<u64>) -> Result<(), AllocError>
+    ensures text { OnOk result (string_bytes out.new ≡ string_bytes out.old
+        ++ cookie_text cookie) }
+    ensures fits { IfSome cookie (λ n. n < 2 ^ 64) }
+{
+    match cookie {
+        Some(cookie) => write!(out, "#{cookie} "),
+        None => Ok(()),
+    }
+}
+
 /// Appends a command of this form, without a line feed. An error is want of memory.
 #[tactic(auto, using(crate::proofs::Fits::are_items, crate::proofs::Fits::are_bytes))]
 pub fn write_command(out: &mut String, form: Form, command: &Command) -> Result<(), AllocError>
@@ -126,7 +139,7 @@ pub fn write_command(out: &mut String, form: Form, command: &Command) -> Result<
     ensures text { OnOk result (string_bytes out.new ≡ string_bytes out.old
         ++ command_text_in form command.now) }
     // Its numbers fit the fields that hold them.
-    ensures fits { form ≡ Report → OnOk result (IsCommand Report command.now) }
+    ensures fits { form ≡ Report → OnOk result (IsCommand Report Two command.now) }
 {
     match command {
         Command::Disconnect => out.push_str("disconnect"),
@@ -135,7 +148,10 @@ pub fn write_command(out: &mut String, form: Form, command: &Command) -> Result<
             out.push_str("reset ")?;
             write_limits(out, *limits)
         }
-        Command::Limit { .. } => unreachable!(),
+        Command::Limit { limits } => {
+            out.push_str("limit ")?;
+            write_limits(out, *limits)
+        }
         Command::Release { number } => {
             out.push_str("release ")?;
             write_item(out, Item::Handle(form), *number)

@@ -1,4 +1,3 @@
-use Rattle.std.proofs.Common.{List, ℕ}
 use Rattle.b1_wire.specs.Numbers.{u64_bytes}
 use Rattle.b1_records.specs.Spelling.{head, flags_of, kind_of_command, has_flag, body_spelling}
 use Rattle.b1_records.proofs.Appended.{in_three, on_ok}

@@ -1,5 +1,5 @@
-use Rattle.std.proofs.Common.{◌<◌, ◌≤◌, ◌≡◌, length, arith, subst, sym, ℕ}
-use Rattle.b1_script.specs.Pieces.{HasNoneBefore, told}
+use Rattle.std.proofs.Common.{arith, subst, sym, ℕ}
+use Rattle.b1_script.specs.Pieces.{HasNoneBefore}
 use Rattle.b1_script.proofs.Stops.{none_before, none_ever, none_untold}
 use Rattle.b1_script.proofs.pieces.next_stop.Goals as goal
 

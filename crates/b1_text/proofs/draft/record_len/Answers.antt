@@ -1,9 +1,8 @@
 use Rattle.std.proofs.Common.{arith}
-use Rattle.b1_text.proofs.Lengths.{destroy_len, send_len}
+use Rattle.b1_text.proofs.Records.{within_any, small_plain}
 use Rattle.b1_text.proofs.draft.record_len.Goals as goal
 
-pub returns-in-Destroy : goal.returns-in-Destroy
-returns-in-Destroy c = rw c.in-Destroy.is (omega (arith, destroy_len c.in-Destroy.numbers))
-
-pub returns-in-Send : goal.returns-in-Send
-returns-in-Send c = rw c.in-Send.is (omega (arith, send_len c.in-Send.send))
+pub overflow_add-result : goal.overflow_add-result
+overflow_add-result c =
+    let small = small_plain c.args.entry.now.command (within_any c.args.entry.now c.requires) in
+    omega (arith, c.plain_len-in-Some.ensures, small)

@@ -1,5 +1,4 @@
-use Rattle.std.proofs.Common.{◌≡◌, IfSome, Result, Ok, List, ℕ, Option, Some, ap, subst, sym}
-use Rattle.b1_records.specs.Reading.{Fault}
+use Rattle.std.proofs.Common.{◌≡◌, IfSome, List, ℕ, Option, ap, subst, sym}
 use Rattle.b1_script.specs.declared.script.Script.{Script}
 use Rattle.b1_script.specs.Pieces.{Taken}
 use Rattle.b1_script.specs.Spelling.{IsWhole}

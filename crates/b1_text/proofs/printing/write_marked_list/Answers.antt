@@ -1,0 +1,11 @@
+use Rattle.std.proofs.Common.{◌≡◌, ◌++◌, OnOk, List, ℕ, subst, sym, ap, string_bytes}
+use Rattle.std.specs.Prelude.{zip}
+use Rattle.b1_text.specs.declared.statement.Statement.TheVariants as says
+use Rattle.b1_text.specs.Texts.{line_text}
+use Rattle.b1_text.proofs.Texts.{text_joined, marked_lines}
+use Rattle.b1_text.proofs.printing.write_marked_list.Goals as goal
+
+pub returns : goal.returns
+returns c =
+    let joined = text_joined c.write_marked_commands.result (string_bytes c.args.out.now) _ _ _ _ c.in_ok-write.ensures.bytes (rw (c.as_slice.ensures, c.as_slice-2.ensures) at c.write_marked_commands.ensures) in
+    subst (λ (t : List ℕ). OnOk c.write_marked_commands.result (string_bytes c.write_marked_commands.new.out ≡ string_bytes c.args.out.now ++ t)) (ap (λ t. line_text (says.Commands c.args.number) ++ t) (sym (marked_lines (zip c.args.cookies.now c.args.commands.now)))) joined
