@@ -3,12 +3,12 @@
 
 usage: failing_memory.py [PROGRAM [ROW..]]    (if left out, crates/bus1sh/out/bus1sh and client_server_logger)
 
-The row's input must be the text of a script that `play` plays to its end. `play`, `run` and `dump` are given its script,
-`asm` its text, and `check` its script with the row's report. Each call must end with status 6 and nothing written, or with
-status 0: with `asm`, `dump` and `check` it then writes what it writes where no allocation fails, and with `play` and `run`
-a report that `check` calls legal. Allocations fail in failing_memory.c, which is built with $CC or gcc and preloaded. It
-works for a program that takes malloc and its kin from the C library, as the program of `rt run` does; that of `rt try`
-brings its own.
+The row's input must be the text of a script that `play` plays to its end. `play`, `run`, `dump` and `migrate` are given
+its script, `asm` its text, and `check` its script with the row's report. Each call must end with status 6 and nothing
+written, or with status 0: with `asm`, `dump`, `migrate` and `check` it then writes what it writes where no allocation
+fails, and with `play` and `run` a report that `check` calls legal. Allocations fail in failing_memory.c, which is built
+with $CC or gcc and preloaded. It works for a program that takes malloc and its kin from the C library, as the program of
+`rt run` does; that of `rt try` brings its own.
 
 It prints a line for each call that goes wrong, and last how many passed and failed. Its status is 1 if one failed, else 0.
 """
@@ -61,6 +61,7 @@ def inputs(program: Path, row: Row) -> dict[str, bytes]:
         "run": script,
         "asm": row.given.encode("ascii"),
         "dump": script,
+        "migrate": script,
         "check": script + row.output,
     }
 

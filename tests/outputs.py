@@ -4,7 +4,8 @@
 usage: outputs.py [PROGRAM]    (if left out, crates/bus1sh/out/bus1sh, which `rt run` builds)
 
 The standard output is closed, or a full device, or a pipe that nobody reads any more, from the start or after its first
-bytes. Each is tried with the usage line, with `play` of a short report, and with `play` of one that no pipe holds.
+bytes. Each is tried with the usage line, with `play` of a short report, and with `play` and `migrate` of a script whose
+report and whose form with cookies no pipe holds.
 
 It prints a line for each call that fails, and last how many passed and failed. Its status is 1 if one failed, else 0.
 """
@@ -78,9 +79,10 @@ def main() -> int:
     short = input_of(program, read_row(HERE / "rows" / "one_message.txt"))
     long = long_script(program)
     outputs: list[Callable[[Path, list[str], bytes], int]] = [closed, full, unread]
-    calls = [(output, *call) for output in outputs for call in (([], b""), (["play"], short), (["play"], long))]
+    inputs = (([], b""), (["play"], short), (["play"], long), (["migrate"], long))
+    calls = [(output, *call) for output in outputs for call in inputs]
     # A pipe holds the short texts whole, so that they are written before the reader leaves.
-    calls.append((left, ["play"], long))
+    calls += [(left, ["play"], long), (left, ["migrate"], long)]
     failed = 0
     for output, words, given in calls:
         status = output(program, words, given)

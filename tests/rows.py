@@ -12,8 +12,8 @@ A row is a file in this form:
     output:
     LINE..                  the whole output that is wanted
 
-Bytes are pairs of hexadecimal digits; where the output is a script, it is given as bytes too. `The script of this text` is
-what the program makes of the text with the word `asm`.
+Bytes are pairs of hexadecimal digits; where the output is a script (`asm` and `migrate`), it is given as bytes too. `The
+script of this text` is what the program makes of the text with the word `asm`.
 
 It prints a line for each row that fails, and last how many passed and failed. Its status is 1 if a row failed, else 0.
 """
@@ -51,7 +51,7 @@ def read_row(path: Path) -> Row:
         raise ValueError("there is no line 'output:'")
     words = value(words, "words").split()
     status = int(value(status, "status"))
-    is_script = words == ["asm"] and status == 0
+    is_script = words in (["asm"], ["migrate"]) and status == 0
     wanted = bytes.fromhex(output) if is_script else output.encode("ascii")
     # The line feed before the mark ends the input's last line.
     return Row(words, status, value(kind, "input"), (given + "\n")[1:], wanted)

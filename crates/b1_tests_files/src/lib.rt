@@ -9,4 +9,6 @@ mod reports;
 #[cfg(test)]
 mod scripts;
 #[cfg(test)]
+mod versions;
+#[cfg(test)]
 mod words;

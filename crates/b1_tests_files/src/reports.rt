@@ -20,7 +20,7 @@ fn a_refused_quota(rt: HostRuntime) -> Result<(), Fail> {
             place: Some(0),
         }),
     };
-    let text = print_call(rt.alloc(), &call)?;
+    let text = print_call(rt.alloc(), &call, None)?;
     assert_eq!(rt;
         text.as_slice(),
         b"recv = refused EDQUOT:bytes:16:0:32:8 at 0\n".as_slice()
@@ -34,7 +34,7 @@ fn a_disconnect(rt: HostRuntime) -> Result<(), Fail> {
         command: Command::Disconnect,
         answer: Answer::Reset { stamp: None },
     };
-    let text = print_call(rt.alloc(), &call)?;
+    let text = print_call(rt.alloc(), &call, None)?;
     assert_eq!(rt; text.as_slice(), b"disconnect = left -\n".as_slice());
     Ok(())
 }
@@ -66,8 +66,8 @@ fn calls_are_read_and_printed_again(rt: HostRuntime) -> Result<(), Fail> {
     ];
     for line in lines {
         let text = with_call(rt.alloc(), line)?;
-        let rec = parse(rt.alloc(), text.as_slice(), 1)?;
-        let printed = print(rt.alloc(), &rec)?;
+        let rec = parse(rt.alloc(), text.as_slice(), 1, None)?;
+        let printed = print(rt.alloc(), &rec, None)?;
         assert!(rt; printed.as_slice() == text.as_slice());
     }
     Ok(())
@@ -85,7 +85,7 @@ fn broken_calls(rt: HostRuntime) -> Result<(), Fail> {
     ];
     for line in lines {
         let text = with_call(rt.alloc(), line)?;
-        let why = parse(rt.alloc(), text.as_slice(), 1).err();
+        let why = parse(rt.alloc(), text.as_slice(), 1, None).err();
         let at = if line == "end" { 49 } else { 45 };
         assert!(rt;
             why == Some(NotRead::Bad {
@@ -113,7 +113,7 @@ fn broken_reports(rt: HostRuntime) -> Result<(), Fail> {
         ),
     ];
     for (text, at) in cases {
-        let why = parse(rt.alloc(), text.as_bytes(), 1).err();
+        let why = parse(rt.alloc(), text.as_bytes(), 1, None).err();
         assert!(rt;
             why == Some(NotRead::Bad {
                 at,

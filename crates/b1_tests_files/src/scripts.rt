@@ -139,7 +139,7 @@ fn a_reference_without_receipt(rt: HostRuntime) -> Result<(), Fail> {
 }
 
 // What a reader makes of bytes in pieces of so many, one at least, and how many bytes it took.
-fn in_pieces(
+pub(crate) fn in_pieces(
     alloc: Global,
     bytes: &[u8],
     size: usize,

@@ -1,4 +1,4 @@
-use b1_model::Command;
+use b1_model::{Command, Version};
 use b1_report_lines::{Stop, Unread, read_answer};
 use b1_text_words::{
     Form, Item, begins_command, begins_item, read_bytes, read_command, read_item, read_list,
@@ -34,7 +34,7 @@ fn bytes_as_pairs(rt: HostRuntime) -> Result<(), Fail> {
 
 #[test]
 fn a_release(rt: HostRuntime) -> Result<(), Fail> {
-    match read_command(rt.alloc(), Form::Script, b"release 8")? {
+    match read_command(rt.alloc(), Form::Script, Version::One, b"release 8")? {
         Some(Command::Release { number }) => assert_eq!(rt; number, 8),
         _ => assert!(rt; false),
     }
@@ -42,9 +42,26 @@ fn a_release(rt: HostRuntime) -> Result<(), Fail> {
 }
 
 #[test]
+fn a_limit(rt: HostRuntime) -> Result<(), Fail> {
+    for form in [Form::Script, Form::Report] {
+        match read_command(rt.alloc(), form, Version::Two, b"limit 4 5 6")? {
+            Some(Command::Limit { limits }) => assert_eq!(rt; limits.handles, 6),
+            _ => assert!(rt; false),
+        }
+        assert!(rt; read_command(rt.alloc(), form, Version::One, b"limit 4 5 6")?.is_none());
+        assert!(rt; begins_command(form, Version::Two, b"lim"));
+        assert!(rt; !begins_command(form, Version::One, b"lim"));
+    }
+    Ok(())
+}
+
+#[test]
 fn a_cut_line(rt: HostRuntime) {
-    assert_eq!(rt; begins_command(Form::Script, b"send 1 to 2,"), true);
-    assert_eq!(rt; begins_command(Form::Report, b"aw"), false);
+    assert_eq!(rt;
+        begins_command(Form::Script, Version::One, b"send 1 to 2,"),
+        true
+    );
+    assert_eq!(rt; begins_command(Form::Report, Version::Two, b"aw"), false);
 }
 
 #[test]

@@ -83,7 +83,7 @@ fn no_words(rt: HostRuntime) -> Result<(), Fail> {
     assert_eq!(rt; status, 1);
     assert_eq!(rt;
         sink.taken(),
-        b"usage: bus1sh play|run|asm|dump|check|soak N\n".as_slice()
+        b"usage: bus1sh play|run|asm|dump|check|migrate|soak N\n".as_slice()
     );
     Ok(())
 }
